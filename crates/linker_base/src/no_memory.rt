@@ -1,0 +1,18 @@
+use std::alloc::{AllocError, AllocFailed};
+
+/// Want of memory. It is an answer of its own, merged with no other, and no clause ties it to a
+/// refused growth.
+#[derive(Clone, Copy, Debug, PartialEq, Eq)]
+pub struct NoMemory;
+
+impl From<AllocError> for NoMemory {
+    fn from(_: AllocError) -> Self {
+        NoMemory
+    }
+}
+
+impl<T: Drop> From<AllocFailed<T>> for NoMemory {
+    fn from(_: AllocFailed<T>) -> Self {
+        NoMemory
+    }
+}
