@@ -1,5 +1,5 @@
 -- Lists seen as sets.
-use Rattle.std.specs.Prelude.{◌≡◌, List, [], ◌∷◌, ◌++◌, ◌⊎◌}
+use Rattle.std.specs.Prelude.{◌≡◌, Bool, true, List, [], ◌∷◌, ◌++◌, ◌⊎◌}
 
 -- x is among xs
 abbrev pub IsMember : {A : Type 0} → List A → A → Type 0
@@ -21,3 +21,8 @@ pub record Adds {A : Type 0} (old new members : List A) : Type 0 where
 abbrev pub IsEachOnce : {A : Type 0} → List A → Type 0
 IsEachOnce [] = Unit {0}
 IsEachOnce (x ∷ xs) = (IsMember xs x → ⊥) × IsEachOnce xs
+
+-- a test of equality that is true between a value and itself, and at nothing else
+pub record IsExact {A : Type 0} (same : A → A → Bool) : Type 0 where
+  pub exact : (x y : A) → same x y ≡ true → x ≡ y
+  pub itself : (x : A) → same x x ≡ true

@@ -60,6 +60,6 @@ mod tests {
         assert!(rt; list.as_slice().is_empty());
         assert!(rt; list.push(3u8).is_ok());
         assert!(rt; list.push(1u8).is_ok());
-        assert!(rt; list.as_slice() == [3, 1]);
+        assert!(rt; list.as_slice() == [3, 1].as_slice());
     }
 }
