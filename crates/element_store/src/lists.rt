@@ -1,0 +1,84 @@
+ghost use Rattle.std.specs.Prelude.{◌≡◌, ◌∷◌, ◌++◌, [], OnOk, OnErr};
+
+use crate::numbers::ElementNo;
+use crate::texts::Name;
+use linker_base::{Listing, NoMemory};
+use smallvec::SmallVec;
+use std::alloc::Global;
+use std::marker::Model;
+
+/// Elements, in order.
+pub type Elements = Listing<ElementNo>;
+
+/// A member or an import in the body of a namespace, by its number in the file.
+#[derive(Clone, Copy, Debug, PartialEq, Eq)]
+pub enum Item {
+    Member(u32),
+    Import(u32),
+}
+
+/// The items of a namespace, in text order.
+pub type Items = Listing<Item>;
+
+/// The segments of a name, in order. Most names are short, so up to four stand in the value itself.
+#[derive(Drop)]
+pub struct Segments {
+    names: SmallVec<Name, 4>,
+}
+
+impl Model for Segments {
+    ghost use Rattle.std.specs.Prelude.{List, ℕ};
+
+    ghost Value = { List (List ℕ) };
+
+    ghost view = { λ s. s.names.items };
+}
+
+impl Segments {
+    /// No segments, which takes no memory.
+    pub fn new(alloc: Global) -> Segments
+        ensures { result ≡ [] }
+    {
+        Segments {
+            names: SmallVec::new(alloc),
+        }
+    }
+
+    /// Appends one segment. After `NoMemory` the list is as it was.
+    pub fn push(&mut self, item: Name) -> Result<(), NoMemory>
+        ensures ok { OnOk result (self.new ≡ self.old ++ item ∷ []) }
+        ensures err { OnErr result (self.new ≡ self.old) }
+    {
+        match self.names.push(item) {
+            Ok(()) => Ok(()),
+            Err(_) => Err(NoMemory),
+        }
+    }
+
+    /// Lends the segments, in order.
+    pub fn as_slice(&self) -> &[Name]
+        ensures { result.now ≡ self.now }
+    {
+        self.names.as_slice()
+    }
+}
+
+#[cfg(test)]
+mod tests {
+    use super::{Item, Items, Segments};
+    use crate::texts::Name;
+
+    #[test]
+    fn lists_keep_their_items(rt: HostRuntime) {
+        let mut items = Items::new(rt.alloc());
+        assert!(rt; items.push(Item::Member(2)).is_ok());
+        assert!(rt; items.push(Item::Import(0)).is_ok());
+        assert!(rt; items.as_slice() == [Item::Member(2), Item::Import(0)].as_slice());
+
+        let mut segments = Segments::new(rt.alloc());
+        for _ in 0..6 {
+            assert!(rt; segments.push(Name::of(Vec::new(rt.alloc()))).is_ok());
+        }
+        assert!(rt; segments.as_slice().len() == 6);
+    }
+}
