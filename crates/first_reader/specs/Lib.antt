@@ -1,0 +1,4 @@
+pub mod Lexing
+pub mod Pieces
+pub mod Words
+pub mod Grammar
