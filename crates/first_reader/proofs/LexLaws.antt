@@ -1,10 +1,13 @@
 -- Lexing a piece at a time.
-use Rattle.std.proofs.Common.{◌≡◌, ℕ, ◌+◌, ◌-◌, ◌<◌, ◌≤◌, zero, suc, List, [], ◌∷◌, ◌++◌, length, take, drop, refl, sym, ◌∙◌, ap, arith, append_assoc, append-nil, length-drop}
+use Rattle.std.proofs.Common.{◌≡◌, ℕ, ◌+◌, ◌-◌, ◌<◌, ◌≤◌, zero, suc, List, [], ◌∷◌, ◌++◌, length, take, drop, refl, sym, ◌∙◌, ap, arith, rules, append_assoc, append-nil, length-drop, All}
+use Rattle.std.proofs.lemmas.List.Elements.{All-append}
 use Rattle.std.proofs.lemmas.List.{drop-drop, drop_all, take_all}
 use Rattle.std.specs.Prelude.{Option, None, Some}
 use Rattle.first_reader.specs.Pieces.{piece_at}
-use Rattle.first_reader.specs.Lexing.{tokens_of_piece, with_front, after_piece, lexed_within, lexed}
+use Rattle.first_reader.specs.Lexing.{kind_of, IsWithin, tokens_of_piece, with_front, after_piece, lexed_within, lexed}
 use Rattle.first_reader.specs.declared.lexer.Piece.{Piece}
+use Rattle.first_reader.specs.declared.lexer.PieceKind.{PieceKind}
+use Rattle.first_reader.specs.declared.lexer.PieceKind.TheVariants.{Space, Basic, Sign}
 use Rattle.first_reader.specs.declared.lexer.Token.{Token}
 
 -- a slice to the end is what is left
@@ -32,9 +35,20 @@ lexed_step zero at (b ∷ bs) p enough e some fits = absurd (omega arith)
 lexed_step (suc steps) at (b ∷ bs) p enough e some fits =
     (steps, omega (arith, length-drop p.length (b ∷ bs)), ap (after_piece at (b ∷ bs) (lexed_within steps)) e)
 
+-- a front of so many has that length
+length-take_fits : (n : ℕ) (xs : List ℕ) → n ≤ length xs → length (take n xs) ≡ n
+length-take_fits n xs h = search rules
+
+-- the token of a piece stands where the piece does
+piece_inside : (text : List ℕ) (at : ℕ) (k : PieceKind) (bytes : List ℕ) → at + length bytes ≤ length text → All (IsWithin text) (tokens_of_piece at k bytes)
+piece_inside text at Space bytes h = search rules
+piece_inside text at Basic bytes h = let one : IsWithin text (record { kind = kind_of bytes; «from» = at; upto = at + length bytes }) = record { ordered = omega arith; within = h } in search rules
+piece_inside text at (Sign k) bytes h = let one : IsWithin text (record { kind = k; «from» = at; upto = at + length bytes }) = record { ordered = omega arith; within = h } in search rules
+
 -- a lexing on its way: the tokens so far, and what is lexed of the rest
 pub record IsLexing (text : List ℕ) (at : ℕ) (tokens : List Token) : Type 0 where
   pub within : at ≤ length text
+  pub inside : All (IsWithin text) tokens
   pub steps : ℕ
   pub enough : length (drop at text) ≤ steps
   pub whole : lexed text ≡ with_front tokens (lexed_within steps at (drop at text))
@@ -42,7 +56,7 @@ pub record IsLexing (text : List ℕ) (at : ℕ) (tokens : List Token) : Type 0 
 -- at the beginning
 pub lexing_begun : (text : List ℕ) → IsLexing text 0 []
 unfolding lexed
-lexing_begun text = record { within = omega arith; steps = length text; enough = omega arith; whole = sym (no_front (lexed_within (length text) 0 text)) }
+lexing_begun text = record { within = omega arith; inside = search rules; steps = length text; enough = omega arith; whole = sym (no_front (lexed_within (length text) 0 text)) }
   where
     no_front : (o : Option (List Token)) → with_front [] o ≡ o
     no_front None = refl
@@ -57,9 +71,11 @@ lexing_more text at tokens p so e some fits =
     let there : drop (at + p.length) text ≡ drop p.length (drop at text) = sym (drop-drop p.length at text) in
     record {
       within = omega (arith, so.within, fits, length-drop at text);
+      inside = All-append (IsWithin text) tokens _ so.inside (piece_inside text at p.kind (take p.length (drop at text)) (omega (arith, so.within, fits, length-drop at text, length-take_fits p.length (drop at text) fits)));
       steps = step.0;
       enough = rw there step.1;
-      whole = so.whole ∙ ap (with_front tokens) step.2 ∙ front_twice tokens _ _ ∙ ap (λ r. with_front (tokens ++ tokens_of_piece at p.kind (take p.length (drop at text))) (lexed_within step.0 (at + p.length) r)) (sym there) }
+      whole = so.whole ∙ ap (with_front tokens) step.2 ∙ front_twice tokens _ _ ∙ ap (λ r. with_front (tokens ++ tokens_of_piece at p.kind (take p.length (drop at text))) (lexed_within step.0 (at + p.length) r)) (sym there);
+    }
 
 -- nothing that is known begins there
 pub lexing_refused : (text : List ℕ) (at : ℕ) (tokens : List Token) → IsLexing text at tokens → at < length text → piece_at (drop at text) ≡ None → lexed text ≡ None

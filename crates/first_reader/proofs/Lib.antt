@@ -1,1 +1,2 @@
 pub mod LexLaws
+pub mod ReadLaws

@@ -35,7 +35,7 @@ bytes_of text t = slice_range text t.«from» t.upto
 
 -- the token at the place in the list
 abbrev pub token_in : List Token → ℕ → Token
-token_in tokens i = slice_index_or tokens i (record { kind = kind.Reserved; «from» = 0; upto = 0 })
+token_in tokens i = slice_index_or tokens i (record { kind = kind.Package; «from» = 0; upto = 0 })
 
 -- the name that a token writes
 abbrev pub written_by : List ℕ → Token → Written
@@ -52,31 +52,31 @@ with_definition d (Some later) = Some (d ∷ later)
 
 -- what follows a definition of so many tokens, or the end of the body
 abbrev pub after_definition : List ℕ → List Token → (List Token → Option (List Definition)) → ℕ → Option (List Definition)
-after_definition text tokens next size =
-    cond (nat_eq size 0) (cond (is_end (map kind_of_token tokens)) (Some []) None) (with_definition (definition_by text tokens size) (next (drop size tokens)))
+after_definition text tokens next zero = cond (is_end (map kind_of_token tokens)) (Some []) None
+after_definition text tokens next (suc n) = with_definition (definition_by text tokens (suc n)) (next (drop (suc n) tokens))
 
 -- the part definitions up to the end; each takes a token at least
 unfoldable pub definitions_within : ℕ → List ℕ → List Token → Option (List Definition)
 definitions_within zero text tokens = None
 definitions_within (suc steps) text tokens = after_definition text tokens (definitions_within steps text) (definition_length (map kind_of_token tokens))
 
+-- the part definitions that the tokens write, up to the end of the body
+unfoldable pub definitions_of : List ℕ → List Token → Option (List Definition)
+definitions_of text tokens = definitions_within (suc (length tokens)) text tokens
+
 -- the package that the tokens of a text write, if the grammar derives them
-unfoldable pub package_by : List ℕ → List Token → Option Package
+abbrev pub package_by : List ℕ → List Token → Option Package
 package_by text tokens =
     cond (is_opening (map kind_of_token tokens))
-      (option_map (λ definitions. record { place = (token_in tokens 0).«from»; name = bytes_of text (token_in tokens 1); definitions = definitions })
-        (definitions_within (suc (length tokens)) text (drop 3 tokens)))
-      None
+    (option_map (λ definitions. record { place = (token_in tokens 0).«from»; name = bytes_of text (token_in tokens 1); definitions = definitions })
+    (definitions_of text (drop 3 tokens)))
+    None
+
+-- the package that the tokens write, if there are tokens
+abbrev pub package_from : List ℕ → Option (List Token) → Option Package
+package_from text None = None
+package_from text (Some tokens) = package_by text tokens
 
 -- the package that a text writes, if it is in the profile of the first path
 unfoldable pub package_of : List ℕ → Option Package
 package_of text = package_from text (lexed text)
-  where
-    package_from : List ℕ → Option (List Token) → Option Package
-    package_from text None = None
-    package_from text (Some tokens) = package_by text tokens
-
--- the token stands within the text
-pub record IsWithin (text : List ℕ) (t : Token) : Type 0 where
-  pub ordered : t.«from» ≤ t.upto
-  pub within : t.upto ≤ length text

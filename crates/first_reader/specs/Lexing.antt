@@ -1,5 +1,5 @@
 -- A text cut into pieces, and its tokens.
-use Rattle.std.specs.Prelude.{◌≡◌, ℕ, ◌+◌, zero, suc, Bool, cond, List, [], ◌∷◌, ◌++◌, length, take, drop, codes, nat_eq, Option, Some, None}
+use Rattle.std.specs.Prelude.{◌≡◌, ◌≤◌, ℕ, ◌+◌, zero, suc, Bool, cond, List, [], ◌∷◌, ◌++◌, length, take, drop, codes, nat_eq, Option, Some, None}
 use Rattle.std.specs.Option.{option_map_or}
 use Rattle.std.specs.Cmp.Lexicographic.{pointwise}
 use Rattle.first_reader.specs.Words.{is_reserved}
@@ -18,8 +18,8 @@ is_text xs ys = pointwise nat_eq xs ys
 abbrev pub kind_of : List ℕ → TokenKind
 kind_of word =
     cond (is_text word (codes "package")) kind.Package
-      (cond (is_text word (codes "part")) kind.Part
-        (cond (is_text word (codes "def")) kind.Def (cond (is_reserved word) kind.Reserved kind.Name)))
+    (cond (is_text word (codes "part")) kind.Part
+    (cond (is_text word (codes "def")) kind.Def (cond (is_reserved word) kind.Reserved kind.Name)))
 
 -- the token of a piece at the place: spaces have none
 abbrev pub tokens_of_piece : ℕ → PieceKind → List ℕ → List Token
@@ -51,3 +51,8 @@ lexed_within (suc steps) at (b ∷ bs) = after_piece at (b ∷ bs) (lexed_within
 -- the tokens of a text, if it is made of these pieces
 unfoldable pub lexed : List ℕ → Option (List Token)
 lexed text = lexed_within (length text) 0 text
+
+-- the token stands within the text
+pub record IsWithin (text : List ℕ) (t : Token) : Type 0 where
+  pub ordered : t.«from» ≤ t.upto
+  pub within : t.upto ≤ length text

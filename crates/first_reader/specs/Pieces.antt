@@ -62,13 +62,13 @@ abbrev pub sign_at : List ℕ → Option Piece
 sign_at [] = None
 sign_at (b ∷ bs) =
     cond (nat_eq b 123) (Some (record { kind = Sign Open; length = 1 }))
-      (cond (nat_eq b 125) (Some (record { kind = Sign Close; length = 1 }))
-        (cond (nat_eq b 59) (Some (record { kind = Sign Semicolon; length = 1 }))
-          (cond (nat_eq b 58) (after_colon bs) None)))
+    (cond (nat_eq b 125) (Some (record { kind = Sign Close; length = 1 }))
+    (cond (nat_eq b 59) (Some (record { kind = Sign Semicolon; length = 1 }))
+    (cond (nat_eq b 58) (after_colon bs) None)))
 
 abbrev pub piece_at : List ℕ → Option Piece
 piece_at [] = None
 piece_at (b ∷ bs) =
     cond (is_space b) (Some (record { kind = Space; length = prefix_len is_space (b ∷ bs) }))
-      (cond (is_letter b) (Some (record { kind = Basic; length = prefix_len is_word_byte (b ∷ bs) }))
-        (sign_at (b ∷ bs)))
+    (cond (is_letter b) (Some (record { kind = Basic; length = prefix_len is_word_byte (b ∷ bs) }))
+    (sign_at (b ∷ bs)))

@@ -1,7 +1,7 @@
-ghost use Rattle.std.specs.Prelude.{◌≡◌, ◌+◌, ◌<◌, ◌≤◌, ◌^◌, ◌++◌, Some, None, IfSome, IfOk, OnOk, length};
+ghost use Rattle.std.specs.Prelude.{◌≡◌, ◌+◌, ◌<◌, ◌≤◌, ◌^◌, ◌++◌, Some, None, IfSome, IfOk, OnOk, length, All};
 ghost use Rattle.std.specs.List.{prefix_len};
 ghost use Rattle.first_reader.specs.Pieces.{is_space, is_letter, is_word_byte, sign_at, piece_at};
-ghost use Rattle.first_reader.specs.Lexing.{kind_of, tokens_of_piece, lexed};
+ghost use Rattle.first_reader.specs.Lexing.{kind_of, tokens_of_piece, lexed, IsWithin};
 
 use crate::words::reserved;
 use linker_base::{Listing, NoMemory};
@@ -80,7 +80,10 @@ fn is_in_word(byte: u8) -> bool
 fn spaces(bytes: &[u8]) -> usize
     ensures { result ≡ prefix_len is_space bytes.now }
 {
-    bytes.iter().take_while(|byte| is_space_byte(**byte)).count()
+    bytes
+        .iter()
+        .take_while(|byte| is_space_byte(**byte))
+        .count()
 }
 
 /// The length of the run of letters, digits and `_` at the front.
@@ -95,11 +98,26 @@ fn sign(bytes: &[u8]) -> Option<Piece>
     ensures { result ≡ sign_at bytes.now }
 {
     match bytes {
-        [b'{', ..] => Some(Piece { kind: PieceKind::Sign(TokenKind::Open), length: 1 }),
-        [b'}', ..] => Some(Piece { kind: PieceKind::Sign(TokenKind::Close), length: 1 }),
-        [b';', ..] => Some(Piece { kind: PieceKind::Sign(TokenKind::Semicolon), length: 1 }),
-        [b':', b'>', b'>', ..] => Some(Piece { kind: PieceKind::Sign(TokenKind::Redefines), length: 3 }),
-        [b':', b'>', ..] => Some(Piece { kind: PieceKind::Sign(TokenKind::Specializes), length: 2 }),
+        [b'{', ..] => Some(Piece {
+            kind: PieceKind::Sign(TokenKind::Open),
+            length: 1,
+        }),
+        [b'}', ..] => Some(Piece {
+            kind: PieceKind::Sign(TokenKind::Close),
+            length: 1,
+        }),
+        [b';', ..] => Some(Piece {
+            kind: PieceKind::Sign(TokenKind::Semicolon),
+            length: 1,
+        }),
+        [b':', b'>', b'>', ..] => Some(Piece {
+            kind: PieceKind::Sign(TokenKind::Redefines),
+            length: 3,
+        }),
+        [b':', b'>', ..] => Some(Piece {
+            kind: PieceKind::Sign(TokenKind::Specializes),
+            length: 2,
+        }),
         _ => None,
     }
 }
@@ -112,10 +130,16 @@ fn longest_piece(bytes: &[u8]) -> Option<Piece>
 {
     let first = *bytes.first()?;
     if is_space_byte(first) {
-        return Some(Piece { kind: PieceKind::Space, length: spaces(bytes) });
+        return Some(Piece {
+            kind: PieceKind::Space,
+            length: spaces(bytes),
+        });
     }
     if begins_word(first) {
-        return Some(Piece { kind: PieceKind::Basic, length: word_length(bytes) });
+        return Some(Piece {
+            kind: PieceKind::Basic,
+            length: word_length(bytes),
+        });
     }
     sign(bytes)
 }
@@ -147,7 +171,11 @@ fn keep(tokens: &mut Listing<Token>, at: u32, kind: PieceKind, bytes: &[u8]) -> 
         PieceKind::Basic => word_kind(bytes),
         PieceKind::Sign(kind) => kind,
     };
-    let token = Token { kind, from: at, upto: at + bytes.len() as u32 };
+    let token = Token {
+        kind,
+        from: at,
+        upto: at + bytes.len() as u32,
+    };
     tokens.push(token)
 }
 
@@ -155,7 +183,8 @@ fn keep(tokens: &mut Listing<Token>, at: u32, kind: PieceKind, bytes: &[u8]) -> 
 /// The tokens of a text, or `None` where a place has no piece that this reader knows.
 pub fn lex(alloc: Global, text: &[u8]) -> Result<Option<Listing<Token>>, NoMemory>
     requires { length text.now < 2 ^ 32 }
-    ensures { IfOk result (λ found. found ≡ lexed text.now) }
+    ensures value { IfOk result (λ found. found ≡ lexed text.now) }
+    ensures within { IfOk result (λ found. IfSome found (All (IsWithin text.now))) }
 {
     let mut tokens = Listing::new(alloc);
     let mut at = 0;

@@ -10,4 +10,4 @@ mod parser;
 mod words;
 
 pub use package::{Definition, Package, Written};
-
+pub use parser::read;

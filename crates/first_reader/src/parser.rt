@@ -1,5 +1,6 @@
 ghost use Rattle.std.specs.Prelude.{◌≡◌, ◌<◌, ◌≤◌, ◌^◌, Some, IfOk, length, take, drop, slice_range, slice_get, map, All, IsTrue, ◌⊎◌};
-ghost use Rattle.first_reader.specs.Grammar.{kind_of_token, definition_length, is_end, is_opening, bytes_of, written_by, definition_by, IsWithin};
+ghost use Rattle.first_reader.specs.Grammar.{kind_of_token, definition_length, is_end, is_opening, bytes_of, written_by, definition_by, definitions_of, package_by, package_of};
+ghost use Rattle.first_reader.specs.Lexing.{IsWithin};
 
 use crate::lexer::{Token, TokenKind, lex};
 use crate::package::{Definition, Package, Written};
@@ -9,24 +10,56 @@ use std::alloc::Global;
 
 /// How many tokens the part definition at the front has; 0 where none stands there.
 fn definition_size(tokens: &[Token]) -> usize
-    ensures { result ≡ definition_length (map kind_of_token tokens.now) }
+    ensures value { result ≡ definition_length (map kind_of_token tokens.now) }
+    ensures within { result ≤ length tokens.now }
+    ensures form { 0 < result → (result ≡ 4 ⊎ result ≡ 6) }
 {
     match tokens {
         [
-            Token { kind: TokenKind::Part, .. },
-            Token { kind: TokenKind::Def, .. },
-            Token { kind: TokenKind::Name, .. },
-            Token { kind: TokenKind::Semicolon, .. },
-            ..,
+            Token {
+                kind: TokenKind::Part,
+                ..
+            },
+            Token {
+                kind: TokenKind::Def,
+                ..
+            },
+            Token {
+                kind: TokenKind::Name,
+                ..
+            },
+            Token {
+                kind: TokenKind::Semicolon,
+                ..
+            },
+            ..
         ] => 4,
         [
-            Token { kind: TokenKind::Part, .. },
-            Token { kind: TokenKind::Def, .. },
-            Token { kind: TokenKind::Name, .. },
-            Token { kind: TokenKind::Specializes, .. },
-            Token { kind: TokenKind::Name, .. },
-            Token { kind: TokenKind::Semicolon, .. },
-            ..,
+            Token {
+                kind: TokenKind::Part,
+                ..
+            },
+            Token {
+                kind: TokenKind::Def,
+                ..
+            },
+            Token {
+                kind: TokenKind::Name,
+                ..
+            },
+            Token {
+                kind: TokenKind::Specializes,
+                ..
+            },
+            Token {
+                kind: TokenKind::Name,
+                ..
+            },
+            Token {
+                kind: TokenKind::Semicolon,
+                ..
+            },
+            ..
         ] => 6,
         _ => 0,
     }
@@ -36,7 +69,13 @@ fn definition_size(tokens: &[Token]) -> usize
 fn ends(tokens: &[Token]) -> bool
     ensures { result ≡ is_end (map kind_of_token tokens.now) }
 {
-    matches!(tokens, [Token { kind: TokenKind::Close, .. }])
+    matches!(
+        tokens,
+        [Token {
+            kind: TokenKind::Close,
+            ..
+        }]
+    )
 }
 
 /// Whether a package begins there.
@@ -47,9 +86,18 @@ fn opens(tokens: &[Token]) -> bool
     matches!(
         tokens,
         [
-            Token { kind: TokenKind::Package, .. },
-            Token { kind: TokenKind::Name, .. },
-            Token { kind: TokenKind::Open, .. },
+            Token {
+                kind: TokenKind::Package,
+                ..
+            },
+            Token {
+                kind: TokenKind::Name,
+                ..
+            },
+            Token {
+                kind: TokenKind::Open,
+                ..
+            },
             ..,
         ]
     )
@@ -79,9 +127,72 @@ fn read_definition(
     let name = name_of(alloc, text, tokens[2])?;
     let general = if size == 6 {
         let token = tokens[4];
-        Some(Written { name: name_of(alloc, text, token)?, place: token.from })
+        Some(Written {
+            name: name_of(alloc, text, token)?,
+            place: token.from,
+        })
     } else {
         None
     };
-    Ok(Definition { place: tokens[0].from, name, general })
+    Ok(Definition {
+        place: tokens[0].from,
+        name,
+        general,
+    })
+}
+
+/// The part definitions up to the end of the package's body, or `None` where the grammar derives no
+/// such tokens.
+fn read_definitions(
+    alloc: Global,
+    text: &[u8],
+    tokens: &[Token],
+) -> Result<Option<Listing<Definition>>, NoMemory>
+    requires { All (IsWithin text.now) tokens.now }
+    ensures { IfOk result (λ found. found ≡ definitions_of text.now tokens.now) }
+{
+    let mut definitions = Listing::new(alloc);
+    let mut at = 0;
+    let mut size = definition_size(tokens);
+    while size > 0 {
+        definitions.push(read_definition(alloc, text, &tokens[at..], size)?)?;
+        at += size;
+        size = definition_size(&tokens[at..]);
+    }
+    if ends(&tokens[at..]) {
+        Ok(Some(definitions))
+    } else {
+        Ok(None)
+    }
+}
+
+/// The package that the tokens write, or `None` where the grammar doesn't derive them.
+fn read_package(alloc: Global, text: &[u8], tokens: &[Token]) -> Result<Option<Package>, NoMemory>
+    requires { All (IsWithin text.now) tokens.now }
+    ensures { IfOk result (λ found. found ≡ package_by text.now tokens.now) }
+{
+    if !opens(tokens) {
+        return Ok(None);
+    }
+    let Some(definitions) = read_definitions(alloc, text, &tokens[3..])? else {
+        return Ok(None);
+    };
+    let name = name_of(alloc, text, tokens[1])?;
+    Ok(Some(Package {
+        place: tokens[0].from,
+        name,
+        definitions,
+    }))
+}
+
+/// Reads a text: its package exactly where it is in the profile of the first path, otherwise `None`.
+/// The text is shorter than 2^32 bytes.
+pub fn read(alloc: Global, text: &[u8]) -> Result<Option<Package>, NoMemory>
+    requires { length text.now < 2 ^ 32 }
+    ensures { IfOk result (λ found. found ≡ package_of text.now) }
+{
+    let Some(tokens) = lex(alloc, text)? else {
+        return Ok(None);
+    };
+    read_package(alloc, text, tokens.as_slice())
 }

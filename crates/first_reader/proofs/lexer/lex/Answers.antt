@@ -5,10 +5,10 @@ use Rattle.first_reader.specs.Lexing.{tokens_of_piece}
 use Rattle.first_reader.proofs.LexLaws.{IsLexing, rest_is, lexing_more, lexing_refused, lexing_ended}
 use Rattle.first_reader.proofs.lexer.lex.Goals as goal
 
-pub returns-in_default : goal.returns-in_default
-returns-in_default c =
+pub returns-in_default-clause-value : goal.returns-in_default-clause-value
+returns-in_default-clause-value c =
     sym (lexing_refused _ _ _ c.loop-at.invariant (omega (arith, c.loop-at-test.true))
-      (subst (λ (r : List ℕ). piece_at r ≡ None) (rest_is c.loop-at.at c.args.text.now) (sym c.longest_piece.ensures.found ∙ c.in_default.is)))
+    (subst (λ (r : List ℕ). piece_at r ≡ None) (rest_is c.loop-at.at c.args.text.now) (sym c.longest_piece.ensures.found ∙ c.in_default.is)))
 
 pub loop-at-preserved : goal.loop-at-preserved
 loop-at-preserved c =
@@ -18,5 +18,5 @@ loop-at-preserved c =
     let fits = subst (λ (r : List ℕ). c.in-Some.piece.length ≤ length r) rest c.in-Some.ensures.within in
     subst (IsLexing c.args.text.now (c.loop-at.at + c.in-Some.piece.length)) (sym kept) (lexing_more _ _ _ c.in-Some.piece c.loop-at.invariant found c.in-Some.ensures.some fits)
 
-pub returns : goal.returns
-returns c = sym (lexing_ended _ _ _ c.loop-at.invariant (omega (arith, c.loop-at-test.false)))
+pub returns-clause-value : goal.returns-clause-value
+returns-clause-value c = sym (lexing_ended _ _ _ c.loop-at.invariant (omega (arith, c.loop-at-test.false)))

@@ -1,0 +1,16 @@
+-- A text is read by its tokens.
+use Rattle.std.proofs.Common.{◌≡◌, List, Option, Some, sym, ◌∙◌, ap, subst}
+use Rattle.std.specs.Result.{IfOk}
+use Rattle.first_reader.specs.Grammar.{package_by, package_from, package_of}
+use Rattle.first_reader.specs.declared.lexer.Token.{Token}
+use Rattle.first_reader.proofs.parser.read.Goals as goal
+
+pub returns-in_default : goal.returns-in_default
+unfolding package_of
+returns-in_default c = ap (package_from c.args.text.now) (sym c.in_default.is ∙ c.in_ok-tokens.ensures.value)
+
+pub returns : goal.returns
+unfolding package_of
+returns c =
+    subst (λ (o : Option (List Token)). IfOk c.read_package.result (λ found. found ≡ package_from c.args.text.now o)) (sym c.in-Some.is ∙ c.in_ok-tokens.ensures.value)
+    (subst (λ (r : List Token). IfOk c.read_package.result (λ found. found ≡ package_by c.args.text.now r)) c.as_slice.ensures c.read_package.ensures)
