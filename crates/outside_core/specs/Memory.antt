@@ -1,5 +1,5 @@
 -- What contracts see of the objects over memory.
-use Rattle.std.specs.Prelude.{◌≡◌, ℕ, ◌+◌, ◌-◌, ◌^◌, min, max, List, [], ◌∷◌}
+use Rattle.std.specs.Prelude.{ℕ, ◌+◌, ◌-◌, ◌^◌, min, max, List, [], ◌∷◌}
 
 -- a source: the bytes left, the greatest sizes of the calls to come, the numbers of the calls that fail, the calls made, the faults
 pub record Feed : Type 0 where

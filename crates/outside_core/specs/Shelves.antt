@@ -1,6 +1,7 @@
 -- What a shelf holds, and what a fetch answers.
-use Rattle.std.specs.Prelude.{◌≡◌, ℕ, ◌<◌, ◌≤◌, List, [], ◌∷◌, length, cond, bytes_eq, Option, Some, None, Result, Ok, Err, Vec, vec_items, unwrap_or}
+use Rattle.std.specs.Prelude.{◌≡◌, ℕ, ◌<◌, ◌≤◌, List, [], ◌∷◌, length, cond, bytes_eq, Option, Some, None, Result, Ok, Err, Vec, vec_items, unwrap_or, slice_index_or}
 use Rattle.linker_base.specs.Counts.{Rose}
+use Rattle.linker_base.specs.Members.{IsMember}
 use Rattle.outside_core.specs.declared.faults.ShelfFault.{ShelfFault}
 use Rattle.outside_core.specs.declared.faults.ShelfFault.TheVariants.{Failed, TooLong, NoMemory}
 
@@ -55,3 +56,8 @@ steady_text l name = unwrap_or (text_beside l.names l.texts name) []
 -- what the shelf tells: the text beside each name, and the empty text under every other name
 abbrev pub steady_told : Library → Told
 steady_told l = Some (λ name. Some (steady_text l name))
+
+-- each text stands under the name at its place, and the empty text under every other name
+pub record StandsBeside (names texts : List (List ℕ)) (text : List ℕ → List ℕ) : Type 0 where
+  pub each : (i : ℕ) → i < length names → text (slice_index_or names i []) ≡ slice_index_or texts i []
+  pub other : (name : List ℕ) → (IsMember names name → ⊥) → text name ≡ []

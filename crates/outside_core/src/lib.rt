@@ -10,10 +10,12 @@ mod shelf;
 mod sink;
 mod source;
 mod steady;
+#[cfg(test)]
+mod tests;
 
 pub use faults::{Failed, ShelfFault};
 pub use memory::{MemorySink, MemorySource};
 pub use shelf::Shelf;
-pub use sink::{StdSink, Sink, give_all};
+pub use sink::{Sink, StdSink, give_all};
 pub use source::{Source, StdSource};
 pub use steady::{SteadyShelf, SteadySink, SteadySource};

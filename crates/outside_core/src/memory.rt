@@ -1,5 +1,5 @@
-ghost use Rattle.std.specs.Prelude.{◌≡◌, ◌-◌, ◌<◌, ◌≤◌, ◌↔◌, ◌⊎◌, Some, [], length, drop, min, IfOk, IsErr, Contains, vec_items};
-ghost use Rattle.linker_base.specs.Counts.{HasCause};
+ghost use Rattle.std.specs.Prelude.{◌≡◌, ◌-◌, ◌<◌, ◌≤◌, ◌↔◌, ◌⊎◌, Some, [], length, drop, min, IfOk, OnErr, IsErr, Contains, vec_items};
+ghost use Rattle.linker_base.specs.Counts.{HasCause, counted_once};
 ghost use Rattle.outside_core.specs.Streams.{Takes, Gives};
 ghost use Rattle.outside_core.specs.Memory.{next_call, within_cut};
 
@@ -59,8 +59,9 @@ impl Source for MemorySource {
         ensures told { Takes (Some self.old.left) (Some self.new.left) result into.new }
         ensures cause { HasCause self.old.faults self.new.faults result }
 
-        // Which calls fail, and how many bytes the others move.
+        // Which calls fail, each of which is counted, and how many bytes the others move.
         ensures failed { IsErr result ↔ Contains self.old.fails (next_call self.old.calls) }
+        ensures counted { OnErr result (self.new.faults ≡ counted_once self.old.faults) }
         ensures moved { IfOk result (λ n. n ≡ within_cut self.old.cuts (min (length into.old) (length self.old.left))) }
 
         // Each call uses up its number and its cut.
@@ -106,7 +107,12 @@ impl Model for MemorySink {
 impl MemorySink {
     /// A sink with room for `room` bytes, for which it takes the memory here. `cuts` and `fails` are as those
     /// of a `MemorySource`.
-    pub fn new(alloc: Global, room: usize, cuts: Vec<usize>, fails: Vec<u64>) -> Result<MemorySink, NoMemory>
+    pub fn new(
+        alloc: Global,
+        room: usize,
+        cuts: Vec<usize>,
+        fails: Vec<u64>,
+    ) -> Result<MemorySink, NoMemory>
         ensures { IfOk result (λ sink. sink ≡ record { given = []; room = room; cuts = cuts.items; fails = fails.items; calls = 0; faults = 0 }) }
     {
         Ok(MemorySink {
@@ -136,8 +142,9 @@ impl Sink for MemorySink {
         ensures told { Gives (Some self.old.given) (Some self.new.given) result piece.now }
         ensures cause { HasCause self.old.faults self.new.faults result }
 
-        // Which calls fail, and how many bytes the others move.
+        // Which calls fail, each of which is counted, and how many bytes the others move.
         ensures failed { IsErr result ↔ (Contains self.old.fails (next_call self.old.calls) ⊎ (self.old.room ≤ length self.old.given)) }
+        ensures counted { OnErr result (self.new.faults ≡ counted_once self.old.faults) }
         ensures moved { IfOk result (λ n. n ≡ within_cut self.old.cuts (min (length piece.now) (self.old.room - length self.old.given))) }
 
         // Each call uses up its number and its cut.

@@ -1,5 +1,5 @@
-ghost use Rattle.std.specs.Prelude.{◌≡◌, ◌<◌, ◌≤◌, ℕ, List, Option, None, length, IfOk};
-ghost use Rattle.linker_base.specs.Counts.{HasCause};
+ghost use Rattle.std.specs.Prelude.{◌≡◌, ◌<◌, ◌≤◌, ℕ, List, Option, None, length, IfOk, OnErr};
+ghost use Rattle.linker_base.specs.Counts.{HasCause, counted_once};
 ghost use Rattle.outside_core.specs.Streams.{Gives, GivesAll};
 
 use crate::faults::Failed;
@@ -65,7 +65,14 @@ impl<W: Write> Sink for StdSink<W> {
 
     ghost faults = { λ count. count };
 
-    fn give(&mut self, piece: &[u8]) -> Result<usize, Failed> {
+    fn give(&mut self, piece: &[u8]) -> Result<usize, Failed>
+        requires { 0 < length piece.now }
+        ensures some { IfOk result (λ n. 0 < n) }
+        ensures bound { IfOk result (λ n. n ≤ length piece.now) }
+        ensures told { Gives None None result piece.now }
+        ensures cause { HasCause self.old self.new result }
+        ensures counted { OnErr result (self.new ≡ counted_once self.old) }
+    {
         match self.writer.write(piece) {
             Ok(count) if count > 0 => Ok(count),
             _ => {

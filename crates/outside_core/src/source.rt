@@ -1,5 +1,5 @@
-ghost use Rattle.std.specs.Prelude.{◌≡◌, ◌<◌, ◌≤◌, ℕ, List, Option, None, length, IfOk};
-ghost use Rattle.linker_base.specs.Counts.{HasCause};
+ghost use Rattle.std.specs.Prelude.{◌≡◌, ◌<◌, ◌≤◌, ℕ, List, Option, None, length, IfOk, OnErr};
+ghost use Rattle.linker_base.specs.Counts.{HasCause, counted_once};
 ghost use Rattle.outside_core.specs.Streams.{Takes};
 
 use crate::faults::Failed;
@@ -53,7 +53,13 @@ impl<R: Read> Source for StdSource<R> {
 
     ghost faults = { λ count. count };
 
-    fn take(&mut self, into: &mut [u8]) -> Result<usize, Failed> {
+    fn take(&mut self, into: &mut [u8]) -> Result<usize, Failed>
+        requires { 0 < length into.old }
+        ensures bound { IfOk result (λ n. n ≤ length into.new) }
+        ensures told { Takes None None result into.new }
+        ensures cause { HasCause self.old self.new result }
+        ensures counted { OnErr result (self.new ≡ counted_once self.old) }
+    {
         match self.reader.read(into) {
             Ok(count) => Ok(count),
             Err(_) => {

@@ -2,7 +2,7 @@ ghost use Rattle.std.specs.Prelude.{◌≡◌, ◌<◌, ◌≤◌, Some, None, O
 ghost use Rattle.linker_base.specs.Counts.{HasCause};
 ghost use Rattle.linker_base.specs.Members.{IsEachOnce};
 ghost use Rattle.outside_core.specs.Streams.{Takes, Gives};
-ghost use Rattle.outside_core.specs.Shelves.{Fetches, HasShelfCause, steady_text, steady_told};
+ghost use Rattle.outside_core.specs.Shelves.{Fetches, HasShelfCause, StandsBeside, steady_text, steady_told};
 ghost use Rattle.outside_core.specs.Memory.{within_cut};
 
 use crate::faults::{Failed, ShelfFault};
@@ -114,7 +114,8 @@ impl SteadyShelf {
     pub fn new(names: Vec<String>, texts: Vec<Vec<u8>>) -> SteadyShelf
         requires as_many { vec_len names ≡ vec_len texts }
         requires distinct { IsEachOnce (map string_bytes names.items) }
-        ensures { result ≡ record { names = map string_bytes names.items; texts = map vec_items texts.items } }
+        ensures value { result ≡ record { names = map string_bytes names.items; texts = map vec_items texts.items } }
+        ensures held { StandsBeside (map string_bytes names.items) (map vec_items texts.items) (steady_text result) }
     {
         SteadyShelf { names, texts }
     }

@@ -1,4 +1,4 @@
-use Rattle.std.proofs.Common.{◌≡◌, ◌∙◌, arith, length, length-drop}
+use Rattle.std.proofs.Common.{◌∙◌, arith, length-drop}
 use Rattle.outside_core.proofs.Streams.{given_further}
 use Rattle.outside_core.proofs.sink.give_all.Goals as goal
 

@@ -1,4 +1,4 @@
-use Rattle.std.proofs.Common.{◌≡◌, ◌∙◌, arith, ap, sym, string_bytes, bytes_eq, String}
+use Rattle.std.proofs.Common.{◌∙◌, arith}
 use Rattle.outside_core.proofs.Shelves.{beside_next}
 use Rattle.outside_core.proofs.steady.text_under.Goals as goal
 
