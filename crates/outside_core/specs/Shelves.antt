@@ -13,25 +13,27 @@ Texts = List ℕ → Option (List ℕ)
 abbrev pub Told : Type 0
 Told = Option Texts
 
--- no text under the name is longer than so many bytes
-abbrev pub Fits : Option (List ℕ) → ℕ → Type 0
-Fits None max = Unit {0}
-Fits (Some text) max = length text ≤ max
+-- the text, if there is one, has at most so many bytes
+abbrev pub IsAtMost : Option (List ℕ) → ℕ → Type 0
+IsAtMost None max = Unit {0}
+IsAtMost (Some text) max = length text ≤ max
 
--- a text stands under the name, and it is longer than so many bytes
-abbrev pub Exceeds : Option (List ℕ) → ℕ → Type 0
-Exceeds None max = ⊥
-Exceeds (Some text) max = max < length text
+-- there is a text, and it has more bytes
+abbrev pub IsLonger : Option (List ℕ) → ℕ → Type 0
+IsLonger None max = ⊥
+IsLonger (Some text) max = max < length text
 
--- Ok gives exactly the text under the name; TooLong comes where that text is longer than `max`, and nothing but Failed elsewhere comes there
+-- Ok gives exactly the text under the name; where that text has more than `max` bytes, TooLong comes or Failed, and TooLong comes nowhere else
+-- (that Ok gives at most `max` bytes is a clause of its own); what is not told says nothing
 abbrev pub Fetches : {A : Type 0} → Told → List ℕ → ℕ → Result (Vec ℕ A) ShelfFault → Type 0
 Fetches None name max result = Unit {0}
 Fetches (Some texts) name max (Ok text) = texts name ≡ Some (vec_items text)
 Fetches (Some texts) name max (Err Failed) = Unit {0}
-Fetches (Some texts) name max (Err TooLong) = Exceeds (texts name) max
-Fetches (Some texts) name max (Err NoMemory) = Fits (texts name) max
+Fetches (Some texts) name max (Err TooLong) = IsLonger (texts name) max
+Fetches (Some texts) name max (Err NoMemory) = IsAtMost (texts name) max
 
--- Failed comes only where the count rose, and then the last failed name is this one; any other answer leaves both
+-- Failed comes only where the count rose, and then the last failed name is this one; any other answer leaves both;
+-- the count never falls
 abbrev pub HasShelfCause : {T : Type 0} → (before now : ℕ) (last new : Option (List ℕ)) (name : List ℕ) → Result T ShelfFault → Type 0
 HasShelfCause before now last new name (Ok text) = (now ≡ before) × (new ≡ last)
 HasShelfCause before now last new name (Err Failed) = (before ≤ now) × Rose before now × (new ≡ Some name)
