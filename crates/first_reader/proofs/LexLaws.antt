@@ -1,5 +1,5 @@
 -- Lexing a piece at a time.
-use Rattle.std.proofs.Common.{◌≡◌, ℕ, ◌+◌, ◌-◌, ◌<◌, ◌≤◌, zero, suc, List, [], ◌∷◌, ◌++◌, length, take, drop, refl, sym, ◌∙◌, ap, arith, rules, append_assoc, append-nil, length-drop, All}
+use Rattle.std.proofs.Common.{◌≡◌, ℕ, ◌+◌, ◌-◌, ◌<◌, ◌≤◌, zero, suc, List, [], ◌∷◌, ◌++◌, length, take, drop, refl, sym, ◌∙◌, ap, arith, rules, append_assoc, append-nil, length-append, length-drop, All}
 use Rattle.std.proofs.lemmas.List.Elements.{All-append}
 use Rattle.std.proofs.lemmas.List.{drop-drop, drop_all, take_all}
 use Rattle.std.specs.Prelude.{Option, None, Some}
@@ -45,10 +45,17 @@ piece_inside text at Space bytes h = search rules
 piece_inside text at Basic bytes h = let one : IsWithin text (record { kind = kind_of bytes; «from» = at; upto = at + length bytes }) = record { ordered = omega arith; within = h } in search rules
 piece_inside text at (Sign k) bytes h = let one : IsWithin text (record { kind = k; «from» = at; upto = at + length bytes }) = record { ordered = omega arith; within = h } in search rules
 
+-- a piece has one token at most, and takes a byte at least
+piece_few : (at : ℕ) (k : PieceKind) (bytes : List ℕ) → 0 < length bytes → length (tokens_of_piece at k bytes) ≤ length bytes
+piece_few at Space bytes h = omega arith
+piece_few at Basic bytes h = omega arith
+piece_few at (Sign k) bytes h = omega arith
+
 -- a lexing on its way: the tokens so far, and what is lexed of the rest
 pub record IsLexing (text : List ℕ) (at : ℕ) (tokens : List Token) : Type 0 where
   pub within : at ≤ length text
   pub inside : All (IsWithin text) tokens
+  pub few : length tokens ≤ at
   pub steps : ℕ
   pub enough : length (drop at text) ≤ steps
   pub whole : lexed text ≡ with_front tokens (lexed_within steps at (drop at text))
@@ -56,7 +63,7 @@ pub record IsLexing (text : List ℕ) (at : ℕ) (tokens : List Token) : Type 0 
 -- at the beginning
 pub lexing_begun : (text : List ℕ) → IsLexing text 0 []
 unfolding lexed
-lexing_begun text = record { within = omega arith; inside = search rules; steps = length text; enough = omega arith; whole = sym (no_front (lexed_within (length text) 0 text)) }
+lexing_begun text = record { within = omega arith; inside = search rules; few = omega arith; steps = length text; enough = omega arith; whole = sym (no_front (lexed_within (length text) 0 text)) }
   where
     no_front : (o : Option (List Token)) → with_front [] o ≡ o
     no_front None = refl
@@ -72,6 +79,7 @@ lexing_more text at tokens p so e some fits =
     record {
       within = omega (arith, so.within, fits, length-drop at text);
       inside = All-append (IsWithin text) tokens _ so.inside (piece_inside text at p.kind (take p.length (drop at text)) (omega (arith, so.within, fits, length-drop at text, length-take_fits p.length (drop at text) fits)));
+      few = omega (arith, so.few, length-append tokens (tokens_of_piece at p.kind (take p.length (drop at text))), length-take_fits p.length (drop at text) fits, piece_few at p.kind (take p.length (drop at text)) (omega (arith, some, length-take_fits p.length (drop at text) fits)));
       steps = step.0;
       enough = rw there step.1;
       whole = so.whole ∙ ap (with_front tokens) step.2 ∙ front_twice tokens _ _ ∙ ap (λ r. with_front (tokens ++ tokens_of_piece at p.kind (take p.length (drop at text))) (lexed_within step.0 (at + p.length) r)) (sym there);

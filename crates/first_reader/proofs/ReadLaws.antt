@@ -1,5 +1,5 @@
 -- Reading part definitions one after the other.
-use Rattle.std.proofs.Common.{◌≡◌, ℕ, ◌+◌, ◌<◌, ◌≤◌, zero, suc, true, false, cond, List, [], ◌∷◌, ◌++◌, length, drop, map, nat_eq, refl, sym, ◌∙◌, ap, arith, append_assoc, append-nil, length-drop, ◌⊎◌, inl, inr}
+use Rattle.std.proofs.Common.{◌≡◌, ℕ, ◌+◌, ◌<◌, ◌≤◌, zero, suc, true, false, cond, List, [], ◌∷◌, ◌++◌, length, drop, map, nat_eq, refl, sym, ◌∙◌, ap, arith, append_assoc, append-nil, length-append, length-drop, ◌⊎◌, inl, inr}
 use Rattle.std.proofs.lemmas.List.{drop-drop}
 use Rattle.std.specs.Prelude.{Option, None, Some}
 use Rattle.first_reader.specs.Grammar.{kind_of_token, definition_length, is_end, definition_by, with_definition, after_definition, definitions_within, definitions_of}
@@ -25,6 +25,7 @@ pub record IsReading (text : List ℕ) (tokens : List Token) (at size : ℕ) (de
   pub next : size ≡ definition_length (map kind_of_token (drop at tokens))
   pub fits : size ≤ length (drop at tokens)
   pub form : 0 < size → (size ≡ 4 ⊎ size ≡ 6)
+  pub few : length definitions ≤ at
   pub steps : ℕ
   pub enough : length (drop at tokens) < steps
   pub whole : definitions_of text tokens ≡ with_front definitions (definitions_within steps text (drop at tokens))
@@ -38,6 +39,7 @@ reading_begun text tokens size e le form = record {
   next = e;
   fits = le;
   form = form;
+  few = omega arith;
   steps = suc (length tokens);
   enough = omega arith;
   whole = sym (front_none _);
@@ -62,6 +64,7 @@ reading_more text tokens at size new_size definitions so some e le form =
       next = e;
       fits = le;
       form = form;
+      few = omega (arith, so.few, some, length-append definitions (definition_by text (drop at tokens) size ∷ []));
       steps = step.0;
       enough = rw there step.1;
       whole = so.whole ∙ ap (with_front definitions) step.2 ∙ front_one definitions _ _ ∙ ap (λ r. with_front (definitions ++ definition_by text (drop at tokens) size ∷ []) (definitions_within step.0 text r)) (sym there);

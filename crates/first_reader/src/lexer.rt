@@ -185,6 +185,7 @@ pub fn lex(alloc: Global, text: &[u8]) -> Result<Option<Listing<Token>>, NoMemor
     requires { length text.now < 2 ^ 32 }
     ensures value { IfOk result (λ found. found ≡ lexed text.now) }
     ensures within { IfOk result (λ found. IfSome found (All (IsWithin text.now))) }
+    ensures few { IfOk result (λ found. IfSome found (λ tokens. length tokens ≤ length text.now)) }
 {
     let mut tokens = Listing::new(alloc);
     let mut at = 0;

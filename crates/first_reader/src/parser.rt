@@ -1,4 +1,4 @@
-ghost use Rattle.std.specs.Prelude.{◌≡◌, ◌<◌, ◌≤◌, ◌^◌, Some, IfOk, length, take, drop, slice_range, slice_get, map, All, IsTrue, ◌⊎◌};
+ghost use Rattle.std.specs.Prelude.{◌≡◌, IfSome, ◌<◌, ◌≤◌, ◌^◌, Some, IfOk, length, take, drop, slice_range, slice_get, map, All, IsTrue, ◌⊎◌};
 ghost use Rattle.first_reader.specs.Grammar.{kind_of_token, definition_length, is_end, is_opening, bytes_of, written_by, definition_by, definitions_of, package_by, package_of};
 ghost use Rattle.first_reader.specs.Lexing.{IsWithin};
 
@@ -149,7 +149,8 @@ fn read_definitions(
     tokens: &[Token],
 ) -> Result<Option<Listing<Definition>>, NoMemory>
     requires { All (IsWithin text.now) tokens.now }
-    ensures { IfOk result (λ found. found ≡ definitions_of text.now tokens.now) }
+    ensures value { IfOk result (λ found. found ≡ definitions_of text.now tokens.now) }
+    ensures few { IfOk result (λ found. IfSome found (λ definitions. length definitions ≤ length tokens.now)) }
 {
     let mut definitions = Listing::new(alloc);
     let mut at = 0;
@@ -169,7 +170,8 @@ fn read_definitions(
 /// The package that the tokens write, or `None` where the grammar doesn't derive them.
 fn read_package(alloc: Global, text: &[u8], tokens: &[Token]) -> Result<Option<Package>, NoMemory>
     requires { All (IsWithin text.now) tokens.now }
-    ensures { IfOk result (λ found. found ≡ package_by text.now tokens.now) }
+    ensures value { IfOk result (λ found. found ≡ package_by text.now tokens.now) }
+    ensures few { IfOk result (λ found. IfSome found (λ p. length p.definitions ≤ length tokens.now)) }
 {
     if !opens(tokens) {
         return Ok(None);
@@ -189,7 +191,8 @@ fn read_package(alloc: Global, text: &[u8], tokens: &[Token]) -> Result<Option<P
 /// The text is shorter than 2^32 bytes.
 pub fn read(alloc: Global, text: &[u8]) -> Result<Option<Package>, NoMemory>
     requires { length text.now < 2 ^ 32 }
-    ensures { IfOk result (λ found. found ≡ package_of text.now) }
+    ensures value { IfOk result (λ found. found ≡ package_of text.now) }
+    ensures few { IfOk result (λ found. IfSome found (λ p. length p.definitions ≤ length text.now)) }
 {
     let Some(tokens) = lex(alloc, text)? else {
         return Ok(None);

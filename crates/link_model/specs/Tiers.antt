@@ -18,7 +18,7 @@ pub record Hit : Type 0 where
 -- x is the declared name
 abbrev pub bears : Option (List ℕ) → List ℕ → Bool
 bears None x = false
-bears (Some name) x = pointwise nat_eq name x
+bears (Some name) x = pointwise nat_eq x name
 
 -- the hit of an owned member: it leads to its element
 abbrev pub hit_of : FileNo → ℕ → Member → Hit

@@ -22,12 +22,12 @@ loop-size-preserved c =
     subst (IsReading c.args.text.now c.args.tokens.now (at + size) next.result) (sym kept)
     (reading_more _ _ at size next.result _ c.loop-size.invariant (omega (arith, c.loop-size-test.true)) found fits next.ensures.form)
 
-pub returns-then-ends : goal.returns-then-ends
-returns-then-ends c =
+pub returns-then-ends-clause-value : goal.returns-then-ends-clause-value
+returns-then-ends-clause-value c =
     sym (reading_ended _ _ _ _ _ c.loop-size.invariant (omega (arith, c.loop-size-test.false))
     (subst (λ (r : List Token). is_end (map kind_of_token r) ≡ true) (rest_is c.loop-size.at c.args.tokens.now) (sym c.ends.ensures ∙ c.if-ends.true)))
 
-pub returns-else-ends : goal.returns-else-ends
-returns-else-ends c =
+pub returns-else-ends-clause-value : goal.returns-else-ends-clause-value
+returns-else-ends-clause-value c =
     sym (reading_refused _ _ _ _ _ c.loop-size.invariant (omega (arith, c.loop-size-test.false))
     (subst (λ (r : List Token). is_end (map kind_of_token r) ≡ false) (rest_is c.loop-size.at c.args.tokens.now) (sym c.ends.ensures ∙ c.if-ends.false)))
