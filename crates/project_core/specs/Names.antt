@@ -1,6 +1,7 @@
 -- What a table of names keeps: of the numbers noted under each name the least two.
 use Rattle.std.specs.Prelude.{◌≡◌, ℕ, ◌+◌, cond, nat_eq, List, [], ◌∷◌, Option, Some, None, unwrap_or}
 use Rattle.std.specs.Map.{lookup}
+use Rattle.std.specs.Option.{option_map_or}
 use Rattle.std.specs.Cmp.Lexicographic.{pointwise}
 use Rattle.project_core.specs.declared.names.Bearers.{Bearers}
 use Rattle.first_reader.specs.declared.package.Definition.{Definition}
@@ -33,3 +34,8 @@ noted number (Some b) = record { first = b.first; second = Some (unwrap_or b.sec
 abbrev pub definition_notes : ℕ → List Definition → List (List ℕ × ℕ)
 definition_notes k [] = []
 definition_notes k (d ∷ ds) = (d.name, k) ∷ definition_notes (k + 1) ds
+
+-- the numbers of the definitions that have a general, the first definition being k
+abbrev pub generals_from : ℕ → List Definition → List ℕ
+generals_from k [] = []
+generals_from k (d ∷ ds) = option_map_or (λ g. k ∷ generals_from (k + 1) ds) d.general (generals_from (k + 1) ds)

@@ -6,11 +6,9 @@
 
 mod faults;
 mod file;
-mod links;
 mod names;
 mod place;
 mod project;
-mod queries;
 mod rows;
 
 pub use faults::{ApplyFault, FileFault, QueryFault};

@@ -1,4 +1,4 @@
-ghost use Rattle.std.specs.Prelude.{◌≡◌, ◌∷◌, ◌++◌, [], OnOk, option_copied};
+ghost use Rattle.std.specs.Prelude.{◌≡◌, ◌∷◌, ◌++◌, [], List, ℕ, Some, None, OnOk, option_copied};
 ghost use Rattle.project_core.specs.Names.{IsTable, bearers_in, noted};
 
 use element_store::Name;
@@ -61,21 +61,26 @@ impl NameTable {
         }
     }
 
-    /// Notes a number under the name; numbers are noted in rising order.
-    pub fn note(&mut self, alloc: Global, name: &Name, number: u32) -> Result<(), NoMemory>
-        ensures { OnOk result ((notes : List (List ℕ × ℕ)) → IsTable self.old notes → IsTable self.new (notes ++ (name.now, number) ∷ [])) }
+    /// What stands under the name with one number more.
+    fn bearers_with(&self, name: &Name, number: u32) -> Bearers
+        ensures { result ≡ noted number (bearers_in self.now name.now) }
     {
-        let bearers = match self.find(name) {
+        match self.find(name) {
             Some(bearers) => bearers.with(number),
             None => Bearers {
                 first: number,
                 second: None,
             },
-        };
-        let key = Name::of(Vec::from_slice(alloc, name.bytes())?);
-        match self.bearers.insert(key, bearers) {
-            Ok(_) => Ok(()),
-            Err(_) => Err(NoMemory),
         }
+    }
+
+    /// Notes a number under the name; numbers are noted in rising order.
+    pub fn note(&mut self, alloc: Global, name: &Name, number: u32) -> Result<(), NoMemory>
+        ensures { OnOk result ((notes : List (List ℕ × ℕ)) → IsTable self.old notes → IsTable self.new (notes ++ (name.now, number) ∷ [])) }
+    {
+        let bearers = self.bearers_with(name, number);
+        let key = Name::of(Vec::from_slice(alloc, name.bytes())?);
+        self.bearers.insert(key, bearers)?;
+        Ok(())
     }
 }

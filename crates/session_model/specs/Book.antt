@@ -21,9 +21,14 @@ text_in book name = option_map_or (λ text. text) (lookup (pointwise nat_eq name
 abbrev pub put_in : Book → List ℕ → List ℕ → Book
 put_in book name text = insert_entry (pointwise nat_eq) book name (Some text)
 
+-- the bytes that stand under the name
+abbrev pub held_in : Book → List ℕ → ℕ
+held_in book name = option_map_or length (text_in book name) 0
+
 -- the bytes of all present texts
 abbrev pub bytes_in : Book → ℕ
-bytes_in book = sum_by (λ e. option_map_or length e.1 0) book
+bytes_in [] = 0
+bytes_in (e ∷ es) = option_map_or length e.1 0 + bytes_in es
 
 -- what an edit does: a new book, or a refusal with the number that it would pass
 pub data Edited : Type 0 where
@@ -42,24 +47,36 @@ edited book name text =
 abbrev pub source_of : List ℕ × Option (List ℕ) → Option Source
 source_of e = option_map_or (λ text. Some (record { name = e.0; text = text; model = model_of_text text })) e.1 None
 
--- one file more in the byte order of names
-abbrev pub rank : List ℕ → ℕ → List (List ℕ × ℕ) → List (List ℕ × ℕ)
-rank name k [] = (name, k) ∷ []
-rank name k (e ∷ es) = cond (is_lt (slice_cmp nat_cmp name e.0)) ((name, k) ∷ e ∷ es) (e ∷ rank name k es)
+-- the name with the number
+abbrev pub name_at : Book → ℕ → List ℕ
+name_at book k = option_map_or (λ e. e.0) (slice_get book k) []
 
--- the present files with their numbers, in byte order of names: those ranked before, and these, the first with the number k
-abbrev pub ranked_onto : List (List ℕ × ℕ) → ℕ → Book → List (List ℕ × ℕ)
-ranked_onto before k [] = before
-ranked_onto before k ((name, text) ∷ es) = ranked_onto (option_map_or (λ t. rank name k before) text before) (k + 1) es
+-- the text with the number, if it is present
+abbrev pub text_at : Book → ℕ → Option (List ℕ)
+text_at book k = option_map_or (λ e. e.1) (slice_get book k) None
 
-abbrev pub file_number : List ℕ × ℕ → FileNo
-file_number e = record { 0 = e.1 }
+-- one file more among files in byte order of names
+abbrev pub rank : Book → ℕ → List ℕ → List ℕ
+rank book k [] = k ∷ []
+rank book k (j ∷ js) = cond (is_lt (slice_cmp nat_cmp (name_at book k) (name_at book j))) (k ∷ j ∷ js) (j ∷ rank book k js)
+
+-- the present ones of the first n files, in byte order of names
+abbrev pub ranked_upto : Book → ℕ → List ℕ
+ranked_upto book zero = []
+ranked_upto book (suc n) = option_map_or (λ text. rank book n (ranked_upto book n)) (text_at book n) (ranked_upto book n)
+
+-- the numbers of the present files, in byte order of names
+unfoldable pub ranked : Book → List ℕ
+ranked book = ranked_upto book (length book)
+
+abbrev pub file_number : ℕ → FileNo
+file_number k = record { 0 = k }
 
 -- the files of a book: a file's number is the place of its name
 abbrev pub files_of : Book → Files
 files_of book = record {
   file = λ f. option_map_or source_of (slice_get book f.0) None;
-  ranked = map file_number (ranked_onto [] 0 book);
+  ranked = map file_number (ranked book);
 }
 
 -- the number of the file under the name; a name that isn't there has the number after the last one

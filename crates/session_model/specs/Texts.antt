@@ -35,16 +35,17 @@ spelt_name name = name
 abbrev pub label_part : List Element → ℕ → List ℕ
 label_part elements e = option_map_or spelt_name (option_map_or (λ element. element.name) (slice_get elements e) None) (codes "#" ++ decimal e)
 
--- the label of an element whose owner has this label: the root has none
-abbrev pub label_below : List ℕ → List ℕ → List ℕ
-label_below [] part = part
-label_below (b ∷ bs) part = (b ∷ bs) ++ codes "::" ++ part
+-- The label of an element with this part under an owner: an element below the root has its part alone, another one the
+-- label of its owner, `::`, and its part.
+abbrev pub label_under : (ℕ → List ℕ) → List ℕ → Option ℕ → List ℕ
+label_under label part None = []
+label_under label part (Some zero) = part
+label_under label part (Some (suc owner)) = label (suc owner) ++ codes "::" ++ part
 
--- The path of an element from below its root, joined by `::`. No path is longer than the elements are many.
+-- The path of an element from below its root, which is element 0. No path is longer than the elements are many.
 abbrev pub label_within : List Element → ℕ → ℕ → List ℕ
 label_within elements zero e = []
-label_within elements (suc steps) e =
-    option_map_or (λ owner. label_below (label_within elements steps owner) (label_part elements e)) (owner_in elements e) []
+label_within elements (suc steps) e = label_under (label_within elements steps) (label_part elements e) (owner_in elements e)
 
 abbrev pub label_of : Files → ElementNo → List ℕ
 label_of files e = let elements = elements_of files e.file in label_within elements (length elements) e.index

@@ -1,0 +1,5 @@
+pub mod BookLaws
+pub mod FileLaws
+pub mod LinkLaws
+pub mod NameLaws
+pub mod PlaceLaws

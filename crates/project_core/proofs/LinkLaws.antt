@@ -1,0 +1,230 @@
+-- What the tables of names say of the tiers.
+use Rattle.std.proofs.Common.{◌≡◌, ℕ, ◌+◌, ◌<◌, ◌≤◌, Bool, true, false, cond, nat_eq, zero, suc, List, [], ◌∷◌, ◌++◌, length, map, refl, sym, ◌∙◌, ap, subst, arith, inl, inr, append_assoc, length-append}
+use Rattle.std.specs.Prelude.{Option, None, Some, slice_get, ◌⊎◌, ◌&&◌}
+use Rattle.std.specs.Option.{option_map_or}
+use Rattle.std.specs.List.{flat_map}
+use Rattle.std.specs.Cmp.Lexicographic.{pointwise, slice_cmp}
+use Rattle.std.specs.Ordering.{nat_cmp, is_lt}
+use Rattle.std.proofs.lemmas.Bool.Decides.{nat_tests}
+use Rattle.linker_base.specs.Members.{IsMember, IsEachOnce}
+use Rattle.linker_base.proofs.Cases.{bool_cases, option_cases}
+use Rattle.element_store.specs.declared.numbers.FileNo.{FileNo}
+use Rattle.element_store.specs.declared.outcome.Outcome.{Outcome}
+use Rattle.element_store.specs.declared.outcome.Outcome.TheVariants.{Linked, Absent, Ambiguous}
+use Rattle.link_model.specs.Model.{Element, Member, Reference, Model, Source, Files}
+use Rattle.link_model.specs.Tiers.{Hit, hits_from, hit_of, members_of, owned, project_tier, elements_of, owner_in, outward, lexical_tiers, deciding, is_element, another, pick}
+use Rattle.link_model.specs.Linking.{ask}
+use Rattle.first_reader.specs.Grammar.{package_of}
+use Rattle.first_reader.specs.PackageModel.{definition_element, definition_members, definition_references, general_reference, model_of, model_from, model_of_text}
+use Rattle.first_reader.specs.declared.package.Written.{Written}
+use Rattle.first_reader.specs.declared.package.Definition.{Definition}
+use Rattle.first_reader.specs.declared.package.Package.{Package}
+use Rattle.session_model.specs.Book.{Book, text_at, name_at, rank, ranked_upto, ranked, file_number, files_of}
+use Rattle.project_core.specs.Names.{numbers_of, two_of, bearers_in, definition_notes, generals_from, IsTable}
+use Rattle.project_core.specs.Lookup.{definition_hit, root_hit, outcome_by, found_in, package_there, root_notes, general_of, general_at, reference_at}
+use Rattle.project_core.proofs.FileLaws.{file_there, file_absent}
+
+-- the first two of these hits lead to different elements
+Differ : List Hit → Type 0
+Differ [] = Unit {0}
+Differ (a ∷ []) = Unit {0}
+Differ (a ∷ b ∷ hs) = is_element a.element b.element ≡ false
+
+-- picking among hits is picking by the first two
+pick_two : (hit : ℕ → Hit) (ns : List ℕ) → Differ (map hit ns) → pick 1 (map hit ns) ≡ option_map_or (outcome_by hit) (two_of ns) (Absent 1)
+unfolding Differ
+pick_two hit [] d = refl
+pick_two hit (a ∷ []) d = refl
+pick_two hit (a ∷ b ∷ ns) d = rw d refl
+
+-- the members that a package owns, by name, are its definitions
+package_hits : (f : FileNo) (x : List ℕ) (k : ℕ) (ds : List Definition) → hits_from f 1 x (k + 1) (definition_members (k + 2) ds) ≡ map (definition_hit f) (numbers_of x (definition_notes k ds))
+package_hits f x k [] = refl
+package_hits f x k (d ∷ ds) =
+    let next : k + 2 + 1 ≡ k + 1 + 2 = omega arith in
+    let rest : hits_from f 1 x (k + 1 + 1) (definition_members (k + 2 + 1) ds) ≡ map (definition_hit f) (numbers_of x (definition_notes (k + 1) ds)) =
+        ap (λ e. hits_from f 1 x (k + 1 + 1) (definition_members e ds)) next ∙ package_hits f x (k + 1) ds in
+    elim (bool_cases (pointwise nat_eq x d.name)) [
+      | inl is ↦ rw is (ap (λ hs. definition_hit f k ∷ hs) rest)
+      | inr other ↦ rw other rest
+    ]
+
+-- no definition is a member of the root
+no_root_hits : (f : FileNo) (x : List ℕ) (k e : ℕ) (ds : List Definition) → hits_from f 0 x k (definition_members e ds) ≡ []
+no_root_hits f x k e [] = refl
+no_root_hits f x k e (d ∷ ds) = no_root_hits f x (k + 1) (e + 1) ds
+
+-- numbers from k on, the first two of which rise
+IsRising : ℕ → List ℕ → Type 0
+IsRising k [] = Unit {0}
+IsRising k (a ∷ []) = k ≤ a
+IsRising k (a ∷ b ∷ ns) = (k ≤ a) × (a < b)
+
+rising_less : (k : ℕ) (ns : List ℕ) → IsRising (k + 1) ns → IsRising k ns
+unfolding IsRising
+rising_less k [] r = tt
+rising_less k (a ∷ []) r = omega (arith, r)
+rising_less k (a ∷ b ∷ ns) r = (omega (arith, r.0), r.1)
+
+rising_first : (k : ℕ) (ns : List ℕ) → IsRising (k + 1) ns → IsRising k (k ∷ ns)
+unfolding IsRising
+rising_first k [] r = omega arith
+rising_first k (a ∷ []) r = (omega arith, omega (arith, r))
+rising_first k (a ∷ b ∷ ns) r = (omega arith, omega (arith, r.0))
+
+rising_next : (b : Bool) (k : ℕ) (ns : List ℕ) → IsRising (k + 1) ns → IsRising k (cond b (k ∷ ns) ns)
+rising_next true k ns r = rising_first k ns r
+rising_next false k ns r = rising_less k ns r
+
+-- the numbers noted under a name rise
+notes_rise : (x : List ℕ) (k : ℕ) (ds : List Definition) → IsRising k (numbers_of x (definition_notes k ds))
+unfolding IsRising
+notes_rise x k [] = tt
+notes_rise x k (d ∷ ds) = rising_next (pointwise nat_eq x d.name) k (numbers_of x (definition_notes (k + 1) ds)) (notes_rise x (k + 1) ds)
+
+other_number : (a b : ℕ) → (a ≡ b → ⊥) → nat_eq a b ≡ false
+other_number a b h = grind (arith, nat_tests)
+
+and_false : (a : Bool) → (a && false) ≡ false
+and_false true = refl
+and_false false = refl
+
+definitions_differ : (f : FileNo) (k : ℕ) (ns : List ℕ) → IsRising k ns → Differ (map (definition_hit f) ns)
+unfolding IsRising Differ
+definitions_differ f k [] r = tt
+definitions_differ f k (a ∷ []) r = tt
+definitions_differ f k (a ∷ b ∷ ns) r = rw (other_number (a + 2) (b + 2) (λ e. absurd (omega (arith, r.1, e)))) (and_false (nat_eq f.0 f.0))
+
+-- what stands under the name among the definitions, as a tier
+definitions_picked : (f : FileNo) (x : List ℕ) (ds : List Definition)
+    → pick 1 (map (definition_hit f) (numbers_of x (definition_notes 0 ds))) ≡ option_map_or (outcome_by (definition_hit f)) (two_of (numbers_of x (definition_notes 0 ds))) (Absent 1)
+definitions_picked f x ds = pick_two (definition_hit f) (numbers_of x (definition_notes 0 ds)) (definitions_differ f 0 _ (notes_rise x 0 ds))
+
+-- ranking a number adds it alone
+rank_members : (book : Book) (k : ℕ) (js : List ℕ) (m : ℕ) → IsMember (rank book k js) m → (k ≡ m) ⊎ IsMember js m
+rank_members book k [] m (inl e) = inl e
+rank_members book k [] m (inr h) = elim h [ ]
+rank_members book k (j ∷ js) m h = ranked_before (is_lt (slice_cmp nat_cmp (name_at book k) (name_at book j))) k j js (rank book k js) m (rank_members book k js m) h
+  where
+    ranked_before : (b : Bool) (k j : ℕ) (js more : List ℕ) (m : ℕ) → (IsMember more m → (k ≡ m) ⊎ IsMember js m) → IsMember (cond b (k ∷ j ∷ js) (j ∷ more)) m → (k ≡ m) ⊎ IsMember (j ∷ js) m
+    ranked_before true k j js more m step (inl e) = inl e
+    ranked_before true k j js more m step (inr h) = inr h
+    ranked_before false k j js more m step (inl e) = inr (inl e)
+    ranked_before false k j js more m step (inr h) = elim (step h) [ inl e ↦ inl e | inr g ↦ inr (inr g) ]
+
+-- ranking a new number leaves each once
+rank_once : (book : Book) (k : ℕ) (js : List ℕ) → (IsMember js k → ⊥) → IsEachOnce js → IsEachOnce (rank book k js)
+rank_once book k [] new once = (λ h. elim h [ ], tt)
+rank_once book k (j ∷ js) new once =
+    once_before (is_lt (slice_cmp nat_cmp (name_at book k) (name_at book j))) k j js (rank book k js) new once
+      (λ h. elim (rank_members book k js j h) [ inl e ↦ new (inl (sym e)) | inr g ↦ once.0 g ]) (rank_once book k js (λ h. new (inr h)) once.1)
+  where
+    once_before : (b : Bool) (k j : ℕ) (js more : List ℕ) → (IsMember (j ∷ js) k → ⊥) → IsEachOnce (j ∷ js) → (IsMember more j → ⊥) → IsEachOnce more → IsEachOnce (cond b (k ∷ j ∷ js) (j ∷ more))
+    once_before true k j js more new once other rest = (new, once)
+    once_before false k j js more new once other rest = (other, rest)
+
+-- the ranked ones of the first n files are below n
+ranked_below : (book : Book) (n m : ℕ) → IsMember (ranked_upto book n) m → m < n
+ranked_below book zero m h = elim h [ ]
+ranked_below book (suc n) m h = below (text_at book n) n m (ranked_upto book n) (ranked_below book n m) h
+  where
+    below : (o : Option (List ℕ)) (n m : ℕ) (js : List ℕ) → (IsMember js m → m < n) → IsMember (option_map_or (λ text. rank book n js) o js) m → m < suc n
+    below None n m js step h = omega (arith, step h)
+    below (Some text) n m js step h = elim (rank_members book n js m h) [ inl e ↦ omega (arith, e) | inr g ↦ omega (arith, step g) ]
+
+-- each file is ranked once
+ranked_once : (book : Book) (n : ℕ) → IsEachOnce (ranked_upto book n)
+ranked_once book zero = tt
+ranked_once book (suc n) = once (text_at book n) n (ranked_upto book n) (λ h. absurd (omega (arith, ranked_below book n n h))) (ranked_once book n)
+  where
+    once : (o : Option (List ℕ)) (n : ℕ) (js : List ℕ) → (IsMember js n → ⊥) → IsEachOnce js → IsEachOnce (option_map_or (λ text. rank book n js) o js)
+    once None n js new rest = rest
+    once (Some text) n js new rest = rank_once book n js new rest
+
+-- the numbers noted for packages are among the files' numbers
+root_members : (book : Book) (x : List ℕ) (ks : List ℕ) (m : ℕ) → IsMember (numbers_of x (root_notes book ks)) m → IsMember ks m
+root_members book x [] m h = elim h [ ]
+root_members book x (k ∷ ks) m h = among (package_there (text_at book k)) (root_notes book ks) (root_members book x ks m) h
+  where
+    in_cond : (b : Bool) (ns : List ℕ) → (IsMember ns m → IsMember ks m) → IsMember (cond b (k ∷ ns) ns) m → IsMember (k ∷ ks) m
+    in_cond true ns step (inl e) = inl e
+    in_cond true ns step (inr g) = inr (step g)
+    in_cond false ns step g = inr (step g)
+
+    among : (o : Option Package) (notes : List (List ℕ × ℕ)) → (IsMember (numbers_of x notes) m → IsMember ks m)
+        → IsMember (numbers_of x (option_map_or (λ p. (p.name, k) ∷ notes) o notes)) m → IsMember (k ∷ ks) m
+    among None notes step g = inr (step g)
+    among (Some p) notes step g = in_cond (pointwise nat_eq x p.name) (numbers_of x notes) step g
+
+-- so each stands once there
+root_once : (book : Book) (x : List ℕ) (ks : List ℕ) → IsEachOnce ks → IsEachOnce (numbers_of x (root_notes book ks))
+root_once book x [] once = tt
+root_once book x (k ∷ ks) once = among (package_there (text_at book k)) (root_notes book ks) (λ h. once.0 (root_members book x ks k h)) (root_once book x ks once.1)
+  where
+    in_cond : (b : Bool) (ns : List ℕ) → (IsMember ns k → ⊥) → IsEachOnce ns → IsEachOnce (cond b (k ∷ ns) ns)
+    in_cond true ns new rest = (new, rest)
+    in_cond false ns new rest = rest
+
+    among : (o : Option Package) (notes : List (List ℕ × ℕ)) → (IsMember (numbers_of x notes) k → ⊥) → IsEachOnce (numbers_of x notes)
+        → IsEachOnce (numbers_of x (option_map_or (λ p. (p.name, k) ∷ notes) o notes))
+    among None notes new rest = rest
+    among (Some p) notes new rest = in_cond (pointwise nat_eq x p.name) (numbers_of x notes) new rest
+
+roots_differ : (ns : List ℕ) → IsEachOnce ns → Differ (map root_hit ns)
+unfolding Differ
+roots_differ [] once = tt
+roots_differ (a ∷ []) once = tt
+roots_differ (a ∷ b ∷ ns) once = rw (other_number a b (λ e. once.0 (inl (sym e)))) refl
+
+-- what stands under the name among the packages of all files, as a tier
+roots_picked : (book : Book) (x : List ℕ)
+    → pick 1 (map root_hit (numbers_of x (root_notes book (ranked book)))) ≡ option_map_or (outcome_by root_hit) (two_of (numbers_of x (root_notes book (ranked book)))) (Absent 1)
+unfolding ranked
+roots_picked book x = pick_two root_hit _ (roots_differ _ (root_once book x (ranked book) (ranked_once book (length book))))
+
+-- the root members of one file that bear the name
+file_roots : (book : Book) (x : List ℕ) (k : ℕ) → hits_from (file_number k) 0 x 0 (members_of (files_of book) (file_number k))
+    ≡ map root_hit (numbers_of x (option_map_or (λ p. (p.name, k) ∷ []) (package_there (text_at book k)) []))
+file_roots book x k = by_text (text_at book k) refl
+  where
+    by_package : (o : Option Package) → hits_from (file_number k) 0 x 0 (model_from o).members ≡ map root_hit (numbers_of x (option_map_or (λ p. (p.name, k) ∷ []) o []))
+    by_package None = refl
+    by_package (Some p) = elim (bool_cases (pointwise nat_eq x p.name)) [
+      | inl is ↦ rw is (ap (λ hs. root_hit k ∷ hs) (no_root_hits (file_number k) x 1 2 p.definitions))
+      | inr other ↦ rw other (no_root_hits (file_number k) x 1 2 p.definitions)
+    ]
+
+    by_text : (o : Option (List ℕ)) → text_at book k ≡ o → hits_from (file_number k) 0 x 0 (members_of (files_of book) (file_number k))
+        ≡ map root_hit (numbers_of x (option_map_or (λ p. (p.name, k) ∷ []) (package_there o) []))
+    by_text None e = ap (λ s. hits_from (file_number k) 0 x 0 (option_map_or (λ t. t.model.members) s [])) (file_absent book k e)
+    by_text (Some text) e = ap (λ s. hits_from (file_number k) 0 x 0 (option_map_or (λ t. t.model.members) s [])) (file_there book k text e) ∙ by_package (package_of text)
+
+-- the project tier is the packages of all files, in byte order of their names
+roots_tier : (book : Book) (x : List ℕ) (ks : List ℕ)
+    → flat_map (λ f. hits_from f 0 x 0 (members_of (files_of book) f)) (map file_number ks) ≡ map root_hit (numbers_of x (root_notes book ks))
+roots_tier book x [] = refl
+roots_tier book x (k ∷ ks) = ap (λ hs. hs ++ flat_map (λ f. hits_from f 0 x 0 (members_of (files_of book) f)) (map file_number ks)) (file_roots book x k)
+    ∙ ap (λ hs. map root_hit (numbers_of x (option_map_or (λ p. (p.name, k) ∷ []) (package_there (text_at book k)) [])) ++ hs) (roots_tier book x ks)
+    ∙ joined (package_there (text_at book k)) (root_notes book ks)
+  where
+    joined_if : (b : Bool) (ns : List ℕ) → map root_hit (cond b (k ∷ []) []) ++ map root_hit ns ≡ map root_hit (cond b (k ∷ ns) ns)
+    joined_if true ns = refl
+    joined_if false ns = refl
+
+    joined : (o : Option Package) (notes : List (List ℕ × ℕ)) → map root_hit (numbers_of x (option_map_or (λ p. (p.name, k) ∷ []) o [])) ++ map root_hit (numbers_of x notes)
+        ≡ map root_hit (numbers_of x (option_map_or (λ p. (p.name, k) ∷ notes) o notes))
+    joined None notes = refl
+    joined (Some p) notes = joined_if (pointwise nat_eq x p.name) (numbers_of x notes)
+
+-- the first of three tiers that has a hit decides
+three_tiers : (hit other : ℕ → Hit) (ns ms : List ℕ) (b : Bool) (middle : Hit) (first last : Outcome)
+    → pick 1 (map hit ns) ≡ option_map_or (outcome_by hit) (two_of ns) (Absent 1) → pick 1 (map other ms) ≡ option_map_or (outcome_by other) (two_of ms) (Absent 1)
+    → pick 1 (deciding (map hit ns ∷ cond b (middle ∷ []) [] ∷ map other ms ∷ []))
+      ≡ option_map_or (outcome_by hit) (two_of ns) (cond b (Linked [] middle.element) (option_map_or (outcome_by other) (two_of ms) (Absent 1)))
+three_tiers hit other [] [] true middle first last e g = refl
+three_tiers hit other [] [] false middle first last e g = refl
+three_tiers hit other [] (m ∷ ms) true middle first last e g = refl
+three_tiers hit other [] (m ∷ []) false middle first last e g = g
+three_tiers hit other [] (m ∷ l ∷ ms) false middle first last e g = g
+three_tiers hit other (n ∷ []) ms b middle first last e g = e
+three_tiers hit other (n ∷ k ∷ ns) ms b middle first last e g = e
