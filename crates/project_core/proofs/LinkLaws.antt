@@ -20,8 +20,12 @@ use Rattle.first_reader.specs.declared.package.Written.{Written}
 use Rattle.first_reader.specs.declared.package.Definition.{Definition}
 use Rattle.first_reader.specs.declared.package.Package.{Package}
 use Rattle.session_model.specs.Book.{Book, text_at, name_at, rank, ranked_upto, ranked, file_number, files_of}
+use Rattle.project_core.specs.declared.names.Bearers.{Bearers}
+use Rattle.element_store.specs.declared.outcome.Role.TheVariants.{Subclass}
 use Rattle.project_core.specs.Names.{numbers_of, two_of, bearers_in, definition_notes, generals_from, IsTable}
 use Rattle.project_core.specs.Lookup.{definition_hit, root_hit, outcome_by, found_in, package_there, root_notes, general_of, general_at, reference_at}
+use Rattle.project_core.specs.Places.{place_in}
+use Rattle.project_core.specs.Rows.{link_rows}
 use Rattle.project_core.proofs.FileLaws.{file_there, file_absent}
 
 -- the first two of these hits lead to different elements
@@ -217,14 +221,114 @@ roots_tier book x (k ∷ ks) = ap (λ hs. hs ++ flat_map (λ f. hits_from f 0 x 
     joined (Some p) notes = joined_if (pointwise nat_eq x p.name) (numbers_of x notes)
 
 -- the first of three tiers that has a hit decides
-three_tiers : (hit other : ℕ → Hit) (ns ms : List ℕ) (b : Bool) (middle : Hit) (first last : Outcome)
+three_tiers : (hit other : ℕ → Hit) (ns ms : List ℕ) (b : Bool) (middle : Hit)
     → pick 1 (map hit ns) ≡ option_map_or (outcome_by hit) (two_of ns) (Absent 1) → pick 1 (map other ms) ≡ option_map_or (outcome_by other) (two_of ms) (Absent 1)
     → pick 1 (deciding (map hit ns ∷ cond b (middle ∷ []) [] ∷ map other ms ∷ []))
       ≡ option_map_or (outcome_by hit) (two_of ns) (cond b (Linked [] middle.element) (option_map_or (outcome_by other) (two_of ms) (Absent 1)))
-three_tiers hit other [] [] true middle first last e g = refl
-three_tiers hit other [] [] false middle first last e g = refl
-three_tiers hit other [] (m ∷ ms) true middle first last e g = refl
-three_tiers hit other [] (m ∷ []) false middle first last e g = g
-three_tiers hit other [] (m ∷ l ∷ ms) false middle first last e g = g
-three_tiers hit other (n ∷ []) ms b middle first last e g = e
-three_tiers hit other (n ∷ k ∷ ns) ms b middle first last e g = e
+three_tiers hit other [] [] true middle e g = refl
+three_tiers hit other [] [] false middle e g = refl
+three_tiers hit other [] (m ∷ ms) true middle e g = refl
+three_tiers hit other [] (m ∷ []) false middle e g = g
+three_tiers hit other [] (m ∷ l ∷ ms) false middle e g = g
+three_tiers hit other (n ∷ []) ms b middle e g = e
+three_tiers hit other (n ∷ k ∷ ns) ms b middle e g = e
+
+-- the outcome of a name in the package's file, by the tables
+tables_ask : (f : FileNo) (p : Package) (roots : List (List ℕ × Bearers)) (x : List ℕ) (notes : List (List ℕ × ℕ)) → IsTable roots notes
+    → pick 1 (map root_hit (numbers_of x notes)) ≡ option_map_or (outcome_by root_hit) (two_of (numbers_of x notes)) (Absent 1)
+    → pick 1 (deciding (hits_from f 1 x 0 (model_of p).members ∷ hits_from f 0 x 0 (model_of p).members ∷ map root_hit (numbers_of x notes) ∷ [])) ≡ found_in f p roots x
+tables_ask f p roots x notes table last =
+    let middle : Hit = record { member = record { file = f; index = 0 }; element = record { file = f; index = 1 } } in
+    let root : hits_from f 0 x 0 (model_of p).members ≡ cond (pointwise nat_eq x p.name) (middle ∷ []) [] =
+        ap (λ hs. cond (pointwise nat_eq x p.name) (middle ∷ hs) hs) (no_root_hits f x 1 2 p.definitions) in
+    ap (λ hs. pick 1 (deciding (hs ∷ hits_from f 0 x 0 (model_of p).members ∷ map root_hit (numbers_of x notes) ∷ []))) (package_hits f x 0 p.definitions)
+    ∙ ap (λ hs. pick 1 (deciding (map (definition_hit f) (numbers_of x (definition_notes 0 p.definitions)) ∷ hs ∷ map root_hit (numbers_of x notes) ∷ []))) root
+    ∙ three_tiers (definition_hit f) root_hit (numbers_of x (definition_notes 0 p.definitions)) (numbers_of x notes) (pointwise nat_eq x p.name) middle (definitions_picked f x p.definitions) last
+    ∙ ap (λ o. option_map_or (outcome_by (definition_hit f)) (two_of (numbers_of x (definition_notes 0 p.definitions))) (cond (pointwise nat_eq x p.name) (Linked [] (record { file = f; index = 1 })) (option_map_or (outcome_by root_hit) o (Absent 1))))
+      (sym (table x))
+
+get_two : {A : Type 0} (a b : A) (xs : List A) (i : ℕ) → slice_get (a ∷ b ∷ xs) (i + 2) ≡ slice_get xs i
+get_two a b xs i = let e : i + 2 ≡ suc (suc i) = omega arith in rw e refl
+
+get_there : {A : Type 0} (xs : List A) (i : ℕ) → i < length xs → (x : A) × (slice_get xs i ≡ Some x)
+get_there [] i h = absurd (omega arith)
+get_there (x ∷ xs) zero h = (x, refl)
+get_there (x ∷ xs) (suc i) h = get_there xs i (omega arith)
+
+get_map : (ds : List Definition) (i : ℕ) (d : Definition) → slice_get ds i ≡ Some d → slice_get (map definition_element ds) i ≡ Some (definition_element d)
+get_map [] i d e = cc
+get_map (c ∷ ds) zero d e = let same : c ≡ d = cc in ap (λ b. Some (definition_element b)) same
+get_map (c ∷ ds) (suc i) d e = get_map ds i d e
+
+-- the package owns each of its definitions
+definition_owner : (p : Package) (i : ℕ) → i < length p.definitions → owner_in (model_of p).elements (i + 2) ≡ Some 1
+definition_owner p i h =
+    let d = get_there p.definitions i h in
+    ap (λ o. option_map_or (λ e. e.owner) o None) (get_two _ _ (map definition_element p.definitions) i ∙ get_map p.definitions i d.0 d.1)
+
+-- the outcome of a definition's general is what the tables give for its name
+pub found_asks : (book : Book) (k : ℕ) (text : List ℕ) (p : Package) (roots : List (List ℕ × Bearers)) (x : List ℕ) (i place : ℕ)
+    → text_at book k ≡ Some text → package_of text ≡ Some p → IsTable roots (root_notes book (ranked book)) → i < length p.definitions
+    → ask (files_of book) (file_number k) (record { role = Subclass; context = i + 2; path = x ∷ []; place = place }) ≡ found_in (file_number k) p roots x
+found_asks book k text p roots x i place here package_is table h =
+    let f = file_number k in
+    let file_is : (files_of book).file f ≡ Some (record { name = name_at book k; text = text; model = model_of p }) =
+        file_there book k text here ∙ ap (λ o. Some (record { name = name_at book k; text = text; model = model_from o })) package_is in
+    let elements_are : elements_of (files_of book) f ≡ (model_of p).elements = ap (λ o. option_map_or (λ s. s.model.elements) o []) file_is in
+    let members_are : members_of (files_of book) f ≡ (model_of p).members = ap (λ o. option_map_or (λ s. s.model.members) o []) file_is in
+    let tiers : (es : List Element) → Type 0 = λ es. pick 1 (deciding (map (λ e. owned (files_of book) x (record { file = f; index = e })) (outward es (length es) 1) ++ project_tier (files_of book) x ∷ [])) ≡ found_in f p roots x in
+    let three : tiers (model_of p).elements =
+        ap (λ ms. pick 1 (deciding (hits_from f 1 x 0 ms ∷ hits_from f 0 x 0 ms ∷ project_tier (files_of book) x ∷ []))) members_are
+        ∙ ap (λ hs. pick 1 (deciding (hits_from f 1 x 0 (model_of p).members ∷ hits_from f 0 x 0 (model_of p).members ∷ hs ∷ []))) (roots_tier book x (ranked book))
+        ∙ tables_ask f p roots x (root_notes book (ranked book)) table (roots_picked book x) in
+    let at_start : (o : Option ℕ) → Type 0 = λ o. option_map_or (λ start. pick 1 (deciding (lexical_tiers (files_of book) x (record { file = f; index = start })))) o (Absent 1) ≡ found_in f p roots x in
+    subst at_start (sym (ap (λ es. owner_in es (i + 2)) elements_are ∙ definition_owner p i h)) (subst tiers (sym elements_are) three)
+
+-- a list that goes on has its next item at the seam
+get_seam : (front ds : List Definition) (d : Definition) → slice_get (front ++ d ∷ ds) (length front) ≡ Some d
+get_seam [] ds d = refl
+get_seam (c ∷ front) ds d = get_seam front ds d
+
+one_more : (front : List Definition) (d : Definition) → length (front ++ d ∷ []) ≡ length front + 1
+one_more front d = length-append front (d ∷ [])
+
+-- the references of a package are those of its definitions that have a general
+pub references_are : (front ds : List Definition) → definition_references (length front + 2) ds ≡ map (reference_at (front ++ ds)) (generals_from (length front) ds)
+references_are front [] = refl
+references_are front (d ∷ ds) =
+    let next : length (front ++ d ∷ []) + 2 ≡ length front + 2 + 1 = omega (arith, one_more front d) in
+    let rest : definition_references (length front + 2 + 1) ds ≡ map (reference_at (front ++ d ∷ ds)) (generals_from (length front + 1) ds) =
+        ap (λ e. definition_references e ds) (sym next) ∙ references_are (front ++ d ∷ []) ds
+        ∙ ap (λ n. map (reference_at ((front ++ d ∷ []) ++ ds)) (generals_from n ds)) (one_more front d)
+        ∙ ap (λ all. map (reference_at all) (generals_from (length front + 1) ds)) (append_assoc front (d ∷ []) ds) in
+    by_general d.general (length front) (front ++ d ∷ ds) _ _ rest (ap general_of (get_seam front ds d))
+  where
+    by_general : (o : Option Written) (k : ℕ) (all : List Definition) (rs : List Reference) (ns : List ℕ) → rs ≡ map (reference_at all) ns → general_at all k ≡ option_map_or (λ g. g) o (record { name = []; place = 0 })
+        → general_reference (k + 2) o ++ rs ≡ map (reference_at all) (option_map_or (λ g. k ∷ ns) o ns)
+    by_general None k all rs ns e g = e
+    by_general (Some g) k all rs ns e is = ap (λ h. record { role = Subclass; context = k + 2; path = h.name ∷ []; place = h.place } ∷ rs) (sym is) ∙ ap (λ qs. reference_at all k ∷ qs) e
+
+-- each number kept is that of a definition with a general
+pub generals_there : (front ds : List Definition) (n : ℕ) → IsMember (generals_from (length front) ds) n → (d : Definition) × (g : Written) × (slice_get (front ++ ds) n ≡ Some d) × (d.general ≡ Some g)
+generals_there front [] n h = elim h [ ]
+generals_there front (d ∷ ds) n h =
+    let later : IsMember (generals_from (length front + 1) ds) n → (c : Definition) × (g : Written) × (slice_get (front ++ d ∷ ds) n ≡ Some c) × (c.general ≡ Some g) =
+        λ m. let more = generals_there (front ++ d ∷ []) ds n (subst (λ k. IsMember (generals_from k ds) n) (sym (one_more front d)) m) in
+        (more.0, more.1, ap (λ all. slice_get all n) (sym (append_assoc front (d ∷ []) ds)) ∙ more.2, more.3) in
+    by_general d.general refl later (subst (λ o. IsMember (option_map_or (λ g. length front ∷ generals_from (length front + 1) ds) o (generals_from (length front + 1) ds)) n) refl h)
+  where
+    by_general : (o : Option Written) → d.general ≡ o
+        → (IsMember (generals_from (length front + 1) ds) n → (c : Definition) × (g : Written) × (slice_get (front ++ d ∷ ds) n ≡ Some c) × (c.general ≡ Some g))
+        → IsMember (option_map_or (λ g. length front ∷ generals_from (length front + 1) ds) o (generals_from (length front + 1) ds)) n
+        → (c : Definition) × (g : Written) × (slice_get (front ++ d ∷ ds) n ≡ Some c) × (c.general ≡ Some g)
+    by_general None e later m = later m
+    by_general (Some g) e later (inl is) = (d, g, subst (λ k. slice_get (front ++ d ∷ ds) k ≡ Some d) is (get_seam front ds d), e)
+    by_general (Some g) e later (inr m) = later m
+
+-- the rows of one reference more
+pub rows_more : (files : Files) (f : FileNo) (text : List ℕ) (k : ℕ) (rs : List Reference) (r : Reference)
+    → link_rows files f text k (rs ++ r ∷ []) ≡ link_rows files f text k rs ++ record { reference = record { file = f; index = k + length rs }; role = r.role; place = place_in text r.place; outcome = ask files f r } ∷ []
+rows_more files f text k [] r = ap (λ n. record { reference = record { file = f; index = n }; role = r.role; place = place_in text r.place; outcome = ask files f r } ∷ []) (omega arith)
+rows_more files f text k (q ∷ rs) r =
+    ap (λ rows. record { reference = record { file = f; index = k }; role = q.role; place = place_in text q.place; outcome = ask files f q } ∷ rows)
+      (rows_more files f text (k + 1) rs r ∙ ap (λ n. link_rows files f text (k + 1) rs ++ record { reference = record { file = f; index = n }; role = r.role; place = place_in text r.place; outcome = ask files f r } ∷ []) (omega arith))
