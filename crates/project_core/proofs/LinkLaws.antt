@@ -1,11 +1,13 @@
 -- What the tables of names say of the tiers.
-use Rattle.std.proofs.Common.{◌≡◌, ℕ, ◌+◌, ◌<◌, ◌≤◌, Bool, true, false, cond, nat_eq, zero, suc, List, [], ◌∷◌, ◌++◌, length, map, refl, sym, ◌∙◌, ap, subst, arith, inl, inr, append_assoc, length-append}
-use Rattle.std.specs.Prelude.{Option, None, Some, slice_get, ◌⊎◌, ◌&&◌}
+use Rattle.std.proofs.Common.{◌≡◌, ℕ, ◌+◌, ◌<◌, ◌≤◌, Bool, true, false, cond, nat_eq, zero, suc, List, [], ◌∷◌, ◌++◌, length, map, refl, sym, ◌∙◌, ap, subst, arith, inl, inr, take, rules, one-add, append_assoc, length-append}
+use Rattle.std.specs.Prelude.{Option, None, Some, Ok, Err, slice_get, slice_index, slice_index_or, insert, not, ◌⊎◌, ◌&&◌}
 use Rattle.std.specs.Option.{option_map_or}
-use Rattle.std.specs.List.{flat_map}
+use Rattle.std.specs.List.{flat_map, prefix_len}
 use Rattle.std.specs.Cmp.Lexicographic.{pointwise, slice_cmp}
 use Rattle.std.specs.Ordering.{nat_cmp, is_lt}
 use Rattle.std.proofs.lemmas.Bool.Decides.{nat_tests}
+use Rattle.std.proofs.lemmas.List.{take_more}
+use Rattle.project_core.specs.declared.rows.LinkRow.{LinkRow}
 use Rattle.linker_base.specs.Members.{IsMember, IsEachOnce}
 use Rattle.linker_base.proofs.Cases.{bool_cases, option_cases}
 use Rattle.element_store.specs.declared.numbers.FileNo.{FileNo}
@@ -19,14 +21,16 @@ use Rattle.first_reader.specs.PackageModel.{definition_element, definition_membe
 use Rattle.first_reader.specs.declared.package.Written.{Written}
 use Rattle.first_reader.specs.declared.package.Definition.{Definition}
 use Rattle.first_reader.specs.declared.package.Package.{Package}
-use Rattle.session_model.specs.Book.{Book, text_at, name_at, rank, ranked_upto, ranked, file_number, files_of}
+use Rattle.session_model.specs.Book.{Book, text_at, name_at, rank, ranked_upto, ranked, file_number, files_of, text_in, number_in}
 use Rattle.project_core.specs.declared.names.Bearers.{Bearers}
 use Rattle.element_store.specs.declared.outcome.Role.TheVariants.{Subclass}
 use Rattle.project_core.specs.Names.{numbers_of, two_of, bearers_in, definition_notes, generals_from, IsTable}
-use Rattle.project_core.specs.Lookup.{definition_hit, root_hit, outcome_by, found_in, package_there, root_notes, general_of, general_at, reference_at}
+use Rattle.project_core.specs.Lookup.{definition_hit, root_hit, outcome_by, found_in, package_there, root_note, root_notes, general_of, general_at, reference_at, table_row, table_rows}
 use Rattle.project_core.specs.Places.{place_in}
-use Rattle.project_core.specs.Rows.{link_rows}
-use Rattle.project_core.proofs.FileLaws.{file_there, file_absent}
+use Rattle.project_core.specs.Rows.{link_rows, rows_of, rows_in}
+use Rattle.project_core.specs.declared.faults.QueryFault.TheVariants.{NoSuchFile}
+use Rattle.project_core.proofs.NameLaws.{index_member}
+use Rattle.project_core.proofs.FileLaws.{file_there, file_absent, number_text}
 
 -- the first two of these hits lead to different elements
 Differ : List Hit → Type 0
@@ -47,7 +51,7 @@ package_hits f x k [] = refl
 package_hits f x k (d ∷ ds) =
     let next : k + 2 + 1 ≡ k + 1 + 2 = omega arith in
     let rest : hits_from f 1 x (k + 1 + 1) (definition_members (k + 2 + 1) ds) ≡ map (definition_hit f) (numbers_of x (definition_notes (k + 1) ds)) =
-        ap (λ e. hits_from f 1 x (k + 1 + 1) (definition_members e ds)) next ∙ package_hits f x (k + 1) ds in
+    ap (λ e. hits_from f 1 x (k + 1 + 1) (definition_members e ds)) next ∙ package_hits f x (k + 1) ds in
     elim (bool_cases (pointwise nat_eq x d.name)) [
       | inl is ↦ rw is (ap (λ hs. definition_hit f k ∷ hs) rest)
       | inr other ↦ rw other rest
@@ -121,7 +125,7 @@ rank_once : (book : Book) (k : ℕ) (js : List ℕ) → (IsMember js k → ⊥) 
 rank_once book k [] new once = (λ h. elim h [ ], tt)
 rank_once book k (j ∷ js) new once =
     once_before (is_lt (slice_cmp nat_cmp (name_at book k) (name_at book j))) k j js (rank book k js) new once
-      (λ h. elim (rank_members book k js j h) [ inl e ↦ new (inl (sym e)) | inr g ↦ once.0 g ]) (rank_once book k js (λ h. new (inr h)) once.1)
+    (λ h. elim (rank_members book k js j h) [ inl e ↦ new (inl (sym e)) | inr g ↦ once.0 g ]) (rank_once book k js (λ h. new (inr h)) once.1)
   where
     once_before : (b : Bool) (k j : ℕ) (js more : List ℕ) → (IsMember (j ∷ js) k → ⊥) → IsEachOnce (j ∷ js) → (IsMember more j → ⊥) → IsEachOnce more → IsEachOnce (cond b (k ∷ j ∷ js) (j ∷ more))
     once_before true k j js more new once other rest = (new, once)
@@ -224,7 +228,7 @@ roots_tier book x (k ∷ ks) = ap (λ hs. hs ++ flat_map (λ f. hits_from f 0 x 
 three_tiers : (hit other : ℕ → Hit) (ns ms : List ℕ) (b : Bool) (middle : Hit)
     → pick 1 (map hit ns) ≡ option_map_or (outcome_by hit) (two_of ns) (Absent 1) → pick 1 (map other ms) ≡ option_map_or (outcome_by other) (two_of ms) (Absent 1)
     → pick 1 (deciding (map hit ns ∷ cond b (middle ∷ []) [] ∷ map other ms ∷ []))
-      ≡ option_map_or (outcome_by hit) (two_of ns) (cond b (Linked [] middle.element) (option_map_or (outcome_by other) (two_of ms) (Absent 1)))
+    ≡ option_map_or (outcome_by hit) (two_of ns) (cond b (Linked [] middle.element) (option_map_or (outcome_by other) (two_of ms) (Absent 1)))
 three_tiers hit other [] [] true middle e g = refl
 three_tiers hit other [] [] false middle e g = refl
 three_tiers hit other [] (m ∷ ms) true middle e g = refl
@@ -240,12 +244,12 @@ tables_ask : (f : FileNo) (p : Package) (roots : List (List ℕ × Bearers)) (x 
 tables_ask f p roots x notes table last =
     let middle : Hit = record { member = record { file = f; index = 0 }; element = record { file = f; index = 1 } } in
     let root : hits_from f 0 x 0 (model_of p).members ≡ cond (pointwise nat_eq x p.name) (middle ∷ []) [] =
-        ap (λ hs. cond (pointwise nat_eq x p.name) (middle ∷ hs) hs) (no_root_hits f x 1 2 p.definitions) in
+    ap (λ hs. cond (pointwise nat_eq x p.name) (middle ∷ hs) hs) (no_root_hits f x 1 2 p.definitions) in
     ap (λ hs. pick 1 (deciding (hs ∷ hits_from f 0 x 0 (model_of p).members ∷ map root_hit (numbers_of x notes) ∷ []))) (package_hits f x 0 p.definitions)
     ∙ ap (λ hs. pick 1 (deciding (map (definition_hit f) (numbers_of x (definition_notes 0 p.definitions)) ∷ hs ∷ map root_hit (numbers_of x notes) ∷ []))) root
     ∙ three_tiers (definition_hit f) root_hit (numbers_of x (definition_notes 0 p.definitions)) (numbers_of x notes) (pointwise nat_eq x p.name) middle (definitions_picked f x p.definitions) last
     ∙ ap (λ o. option_map_or (outcome_by (definition_hit f)) (two_of (numbers_of x (definition_notes 0 p.definitions))) (cond (pointwise nat_eq x p.name) (Linked [] (record { file = f; index = 1 })) (option_map_or (outcome_by root_hit) o (Absent 1))))
-      (sym (table x))
+    (sym (table x))
 
 get_two : {A : Type 0} (a b : A) (xs : List A) (i : ℕ) → slice_get (a ∷ b ∷ xs) (i + 2) ≡ slice_get xs i
 get_two a b xs i = let e : i + 2 ≡ suc (suc i) = omega arith in rw e refl
@@ -273,14 +277,14 @@ pub found_asks : (book : Book) (k : ℕ) (text : List ℕ) (p : Package) (roots 
 found_asks book k text p roots x i place here package_is table h =
     let f = file_number k in
     let file_is : (files_of book).file f ≡ Some (record { name = name_at book k; text = text; model = model_of p }) =
-        file_there book k text here ∙ ap (λ o. Some (record { name = name_at book k; text = text; model = model_from o })) package_is in
+    file_there book k text here ∙ ap (λ o. Some (record { name = name_at book k; text = text; model = model_from o })) package_is in
     let elements_are : elements_of (files_of book) f ≡ (model_of p).elements = ap (λ o. option_map_or (λ s. s.model.elements) o []) file_is in
     let members_are : members_of (files_of book) f ≡ (model_of p).members = ap (λ o. option_map_or (λ s. s.model.members) o []) file_is in
     let tiers : (es : List Element) → Type 0 = λ es. pick 1 (deciding (map (λ e. owned (files_of book) x (record { file = f; index = e })) (outward es (length es) 1) ++ project_tier (files_of book) x ∷ [])) ≡ found_in f p roots x in
     let three : tiers (model_of p).elements =
-        ap (λ ms. pick 1 (deciding (hits_from f 1 x 0 ms ∷ hits_from f 0 x 0 ms ∷ project_tier (files_of book) x ∷ []))) members_are
-        ∙ ap (λ hs. pick 1 (deciding (hits_from f 1 x 0 (model_of p).members ∷ hits_from f 0 x 0 (model_of p).members ∷ hs ∷ []))) (roots_tier book x (ranked book))
-        ∙ tables_ask f p roots x (root_notes book (ranked book)) table (roots_picked book x) in
+    ap (λ ms. pick 1 (deciding (hits_from f 1 x 0 ms ∷ hits_from f 0 x 0 ms ∷ project_tier (files_of book) x ∷ []))) members_are
+    ∙ ap (λ hs. pick 1 (deciding (hits_from f 1 x 0 (model_of p).members ∷ hits_from f 0 x 0 (model_of p).members ∷ hs ∷ []))) (roots_tier book x (ranked book))
+    ∙ tables_ask f p roots x (root_notes book (ranked book)) table (roots_picked book x) in
     let at_start : (o : Option ℕ) → Type 0 = λ o. option_map_or (λ start. pick 1 (deciding (lexical_tiers (files_of book) x (record { file = f; index = start })))) o (Absent 1) ≡ found_in f p roots x in
     subst at_start (sym (ap (λ es. owner_in es (i + 2)) elements_are ∙ definition_owner p i h)) (subst tiers (sym elements_are) three)
 
@@ -298,9 +302,9 @@ references_are front [] = refl
 references_are front (d ∷ ds) =
     let next : length (front ++ d ∷ []) + 2 ≡ length front + 2 + 1 = omega (arith, one_more front d) in
     let rest : definition_references (length front + 2 + 1) ds ≡ map (reference_at (front ++ d ∷ ds)) (generals_from (length front + 1) ds) =
-        ap (λ e. definition_references e ds) (sym next) ∙ references_are (front ++ d ∷ []) ds
-        ∙ ap (λ n. map (reference_at ((front ++ d ∷ []) ++ ds)) (generals_from n ds)) (one_more front d)
-        ∙ ap (λ all. map (reference_at all) (generals_from (length front + 1) ds)) (append_assoc front (d ∷ []) ds) in
+    ap (λ e. definition_references e ds) (sym next) ∙ references_are (front ++ d ∷ []) ds
+    ∙ ap (λ n. map (reference_at ((front ++ d ∷ []) ++ ds)) (generals_from n ds)) (one_more front d)
+    ∙ ap (λ all. map (reference_at all) (generals_from (length front + 1) ds)) (append_assoc front (d ∷ []) ds) in
     by_general d.general (length front) (front ++ d ∷ ds) _ _ rest (ap general_of (get_seam front ds d))
   where
     by_general : (o : Option Written) (k : ℕ) (all : List Definition) (rs : List Reference) (ns : List ℕ) → rs ≡ map (reference_at all) ns → general_at all k ≡ option_map_or (λ g. g) o (record { name = []; place = 0 })
@@ -313,8 +317,8 @@ pub generals_there : (front ds : List Definition) (n : ℕ) → IsMember (genera
 generals_there front [] n h = elim h [ ]
 generals_there front (d ∷ ds) n h =
     let later : IsMember (generals_from (length front + 1) ds) n → (c : Definition) × (g : Written) × (slice_get (front ++ d ∷ ds) n ≡ Some c) × (c.general ≡ Some g) =
-        λ m. let more = generals_there (front ++ d ∷ []) ds n (subst (λ k. IsMember (generals_from k ds) n) (sym (one_more front d)) m) in
-        (more.0, more.1, ap (λ all. slice_get all n) (sym (append_assoc front (d ∷ []) ds)) ∙ more.2, more.3) in
+    λ m. let more = generals_there (front ++ d ∷ []) ds n (subst (λ k. IsMember (generals_from k ds) n) (sym (one_more front d)) m) in
+    (more.0, more.1, ap (λ all. slice_get all n) (sym (append_assoc front (d ∷ []) ds)) ∙ more.2, more.3) in
     by_general d.general refl later (subst (λ o. IsMember (option_map_or (λ g. length front ∷ generals_from (length front + 1) ds) o (generals_from (length front + 1) ds)) n) refl h)
   where
     by_general : (o : Option Written) → d.general ≡ o
@@ -331,4 +335,106 @@ pub rows_more : (files : Files) (f : FileNo) (text : List ℕ) (k : ℕ) (rs : L
 rows_more files f text k [] r = ap (λ n. record { reference = record { file = f; index = n }; role = r.role; place = place_in text r.place; outcome = ask files f r } ∷ []) (omega arith)
 rows_more files f text k (q ∷ rs) r =
     ap (λ rows. record { reference = record { file = f; index = k }; role = q.role; place = place_in text q.place; outcome = ask files f q } ∷ rows)
-      (rows_more files f text (k + 1) rs r ∙ ap (λ n. link_rows files f text (k + 1) rs ++ record { reference = record { file = f; index = n }; role = r.role; place = place_in text r.place; outcome = ask files f r } ∷ []) (omega arith))
+    (rows_more files f text (k + 1) rs r ∙ ap (λ n. link_rows files f text (k + 1) rs ++ record { reference = record { file = f; index = n }; role = r.role; place = place_in text r.place; outcome = ask files f r } ∷ []) (omega arith))
+
+-- each reference is that of a definition with a general
+pub general_there : (ds : List Definition) (r : ℕ) → r < length (generals_from 0 ds) → (d : Definition) × (g : Written) × (slice_get ds (slice_index (generals_from 0 ds) r) ≡ Some d) × (d.general ≡ Some g)
+general_there ds r h = generals_there [] ds (slice_index (generals_from 0 ds) r) (index_member (generals_from 0 ds) r h)
+
+get_below : {A : Type 0} (xs : List A) (i : ℕ) (x : A) → slice_get xs i ≡ Some x → i < length xs
+get_below [] i x e = cc
+get_below (y ∷ xs) zero x e = omega arith
+get_below (y ∷ xs) (suc i) x e = omega (arith, get_below xs i x e)
+
+-- so its number is in range
+pub general_below : (ds : List Definition) (r : ℕ) → r < length (generals_from 0 ds) → slice_index (generals_from 0 ds) r < length ds
+general_below ds r h = let t = general_there ds r h in get_below ds _ t.0 t.2
+
+-- ranking a number inserts it before the first name that is above its own
+pub rank_insert : (book : Book) (k : ℕ) (js : List ℕ) → rank book k js ≡ insert js (prefix_len (λ j. not (is_lt (slice_cmp nat_cmp (name_at book k) (name_at book j)))) js) k
+rank_insert book k [] = refl
+rank_insert book k (j ∷ js) = by_test (is_lt (slice_cmp nat_cmp (name_at book k) (name_at book j))) (rank_insert book k js)
+  where
+    by_test : (b : Bool) → rank book k js ≡ insert js (prefix_len (λ i. not (is_lt (slice_cmp nat_cmp (name_at book k) (name_at book i)))) js) k
+        → cond b (k ∷ j ∷ js) (j ∷ rank book k js) ≡ insert (j ∷ js) (cond (not b) (1 + prefix_len (λ i. not (is_lt (slice_cmp nat_cmp (name_at book k) (name_at book i)))) js) 0) k
+    by_test true e = refl
+    by_test false e = rw one-add (ap (λ is. j ∷ is) e)
+
+-- the notes of one package more
+pub roots_more : (book : Book) (ks : List ℕ) (k : ℕ) → root_notes book (ks ++ k ∷ []) ≡ root_notes book ks ++ root_note book k
+roots_more book [] k = refl
+roots_more book (j ∷ ks) k = with_note (package_there (text_at book j)) (roots_more book ks k)
+  where
+    with_note : (o : Option Package) → root_notes book (ks ++ k ∷ []) ≡ root_notes book ks ++ root_note book k
+        → option_map_or (λ p. (p.name, j) ∷ root_notes book (ks ++ k ∷ [])) o (root_notes book (ks ++ k ∷ [])) ≡ option_map_or (λ p. (p.name, j) ∷ root_notes book ks) o (root_notes book ks) ++ root_note book k
+    with_note None e = e
+    with_note (Some p) e = ap (λ ns. (p.name, j) ∷ ns) e
+
+-- the rows by the tables of one reference more
+pub table_rows_more : (f : FileNo) (text : List ℕ) (p : Package) (roots : List (List ℕ × Bearers)) (j : ℕ) (ks : List ℕ) (k : ℕ)
+    → table_rows f text p roots j (ks ++ k ∷ []) ≡ table_rows f text p roots j ks ++ table_rows f text p roots (j + length ks) (k ∷ [])
+table_rows_more f text p roots j [] k = ap (λ n. table_rows f text p roots n (k ∷ [])) (omega arith)
+table_rows_more f text p roots j (i ∷ ks) k =
+    ap (λ rows. table_rows f text p roots j (i ∷ []) ++ rows) (table_rows_more f text p roots (j + 1) ks k ∙ ap (λ n. table_rows f text p roots (j + 1) ks ++ table_rows f text p roots n (k ∷ [])) (omega arith))
+
+-- the rows by the tables are the rows of the links
+rows_by_tables : (book : Book) (k : ℕ) (text : List ℕ) (p : Package) (roots : List (List ℕ × Bearers)) → text_at book k ≡ Some text → package_of text ≡ Some p → IsTable roots (root_notes book (ranked book))
+    → (j : ℕ) (ks : List ℕ) → ((n : ℕ) → IsMember ks n → n < length p.definitions)
+    → link_rows (files_of book) (file_number k) text j (map (reference_at p.definitions) ks) ≡ table_rows (file_number k) text p roots j ks
+rows_by_tables book k text p roots here package_is table j [] within = refl
+rows_by_tables book k text p roots here package_is table j (i ∷ ks) within =
+    let g = general_at p.definitions i in
+    ap (λ o. record { reference = record { file = file_number k; index = j }; role = Subclass; place = place_in text g.place; outcome = o } ∷ link_rows (files_of book) (file_number k) text (j + 1) (map (reference_at p.definitions) ks))
+    (found_asks book k text p roots g.name i g.place here package_is table (within i (inl refl)))
+    ∙ ap (λ rows. table_rows (file_number k) text p roots j (i ∷ []) ++ rows) (rows_by_tables book k text p roots here package_is table (j + 1) ks (λ n m. within n (inr m)))
+
+-- the rows of a file in the profile
+pub links_are : (book : Book) (name text : List ℕ) (p : Package) (roots : List (List ℕ × Bearers)) → text_at book (number_in book name).0 ≡ Some text → package_of text ≡ Some p → IsTable roots (root_notes book (ranked book))
+    → rows_in book name ≡ Ok (table_rows (number_in book name) text p roots 0 (generals_from 0 p.definitions))
+links_are book name text p roots here package_is table =
+    let k = (number_in book name).0 in
+    ap (rows_of (files_of book) (file_number k)) (file_there book k text here ∙ ap (λ o. Some (record { name = name_at book k; text = text; model = model_from o })) package_is)
+    ∙ ap (λ rs. Ok (link_rows (files_of book) (file_number k) text 0 rs)) (references_are [] p.definitions)
+    ∙ ap Ok (rows_by_tables book k text p roots here package_is table 0 (generals_from 0 p.definitions)
+    (λ n m. let t = generals_there [] p.definitions n m in get_below p.definitions n t.0 t.2))
+
+-- the rows of a file out of the profile
+pub links_bare : (book : Book) (name text : List ℕ) → text_at book (number_in book name).0 ≡ Some text → package_of text ≡ None → rows_in book name ≡ Ok []
+links_bare book name text here package_is =
+    let k = (number_in book name).0 in
+    ap (rows_of (files_of book) (file_number k)) (file_there book k text here ∙ ap (λ o. Some (record { name = name_at book k; text = text; model = model_from o })) package_is)
+
+-- no rows without a file
+pub links_none : (book : Book) (name : List ℕ) → text_in book name ≡ None → rows_in book name ≡ Err NoSuchFile
+links_none book name e =
+    let k = (number_in book name).0 in
+    ap (rows_of (files_of book) (file_number k)) (file_absent book k (number_text book name ∙ e))
+
+index_there : (ds : List Definition) (n : ℕ) (d x : Definition) → slice_get ds n ≡ Some d → slice_index_or ds n x ≡ d
+index_there [] n d x e = cc
+index_there (c ∷ ds) zero d x e = cc
+index_there (c ∷ ds) (suc n) d x e = index_there ds n d x e
+
+-- the definition of a reference has a general, which is the one at its number
+pub general_found : (ds : List Definition) (r : ℕ) (x : Definition) → r < length (generals_from 0 ds)
+    → (g : Written) × ((slice_index_or ds (slice_index (generals_from 0 ds) r) x).general ≡ Some g) × (general_at ds (slice_index (generals_from 0 ds) r) ≡ g)
+general_found ds r x h =
+    let t = general_there ds r h in (
+      t.1,
+      ap (λ d. d.general) (index_there ds (slice_index (generals_from 0 ds) r) t.0 x t.2) ∙ t.3,
+      ap general_of t.2 ∙ ap (λ o. option_map_or (λ g. g) o (record { name = []; place = 0 })) t.3,
+    )
+
+-- the rows by the tables up to the next reference
+pub table_rows_next : (f : FileNo) (text : List ℕ) (p : Package) (roots : List (List ℕ × Bearers)) (i : ℕ) (rows : List LinkRow) (row : LinkRow)
+    → rows ≡ table_rows f text p roots 0 (take i (generals_from 0 p.definitions)) → row ≡ table_row f text p roots i (slice_index (generals_from 0 p.definitions) i) → i < length (generals_from 0 p.definitions)
+    → rows ++ row ∷ [] ≡ table_rows f text p roots 0 (take (i + 1) (generals_from 0 p.definitions))
+table_rows_next f text p roots i rows row so next h =
+    let gs = generals_from 0 p.definitions in
+    ap (λ rs. rs ++ row ∷ []) so ∙ ap (λ r. table_rows f text p roots 0 (take i gs) ++ r ∷ []) next
+    ∙ ap (λ n. table_rows f text p roots 0 (take i gs) ++ table_row f text p roots n (slice_index gs i) ∷ []) (omega (arith, take_fits i gs h))
+    ∙ sym (table_rows_more f text p roots 0 (take i gs) (slice_index gs i))
+    ∙ ap (table_rows f text p roots 0) (sym (take_more gs i 0 h))
+  where
+    take_fits : (i : ℕ) (gs : List ℕ) → i < length gs → length (take i gs) ≡ i
+    take_fits i gs h = search rules

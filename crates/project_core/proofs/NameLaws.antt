@@ -1,13 +1,14 @@
 -- A table of names, a note at a time.
-use Rattle.std.proofs.Common.{◌≡◌, ℕ, ◌+◌, Bool, true, false, cond, nat_eq, List, [], ◌∷◌, ◌++◌, length, take, get_or, ◌<◌, rules, length-take-le, refl, sym, ◌∙◌, ap, subst, append-nil, arith, inl, inr}
-use Rattle.std.specs.Prelude.{suc, Option, None, Some, unwrap_or}
+use Rattle.std.proofs.Common.{◌≡◌, ℕ, ◌+◌, Bool, true, false, cond, nat_eq, List, [], ◌∷◌, ◌++◌, length, take, get_or, ◌<◌, ◌≤◌, rules, length-take-le, refl, sym, ◌∙◌, ap, subst, append-nil, arith, inl, inr}
+use Rattle.std.specs.Prelude.{suc, zero, Option, None, Some, IfSome, unwrap_or, slice_index}
+use Rattle.linker_base.specs.Members.{IsMember}
 use Rattle.std.specs.Option.{option_map_or}
 use Rattle.first_reader.specs.declared.package.Written.{Written}
 use Rattle.std.specs.Cmp.Lexicographic.{pointwise}
 use Rattle.std.proofs.lemmas.List.{take_more}
 use Rattle.std.proofs.lemmas.Slice.Eq.{bytes_eq-Decides}
 use Rattle.linker_base.proofs.Cases.{bool_cases}
-use Rattle.project_core.specs.Names.{IsTable, generals_from, bearers_in, numbers_of, two_of, noted, definition_notes}
+use Rattle.project_core.specs.Names.{IsTable, IsWithinCount, generals_from, bearers_in, numbers_of, two_of, noted, definition_notes}
 use Rattle.project_core.specs.declared.names.Bearers.{Bearers}
 use Rattle.first_reader.specs.declared.package.Definition.{Definition}
 
@@ -98,3 +99,37 @@ generals_at ds i d h is =
   where
     fits : length (take i ds) ≡ i
     fits = search rules
+
+-- no more definitions have a general than there are
+pub generals_few : (k : ℕ) (ds : List Definition) → length (generals_from k ds) ≤ length ds
+generals_few k [] = omega arith
+generals_few k (d ∷ ds) = few d.general (generals_from (k + 1) ds) (generals_few (k + 1) ds)
+  where
+    few : (o : Option Written) (ns : List ℕ) → length ns ≤ length ds → length (option_map_or (λ g. k ∷ ns) o ns) ≤ suc (length ds)
+    few None ns h = omega (arith, h)
+    few (Some g) ns h = omega (arith, h)
+
+-- an item in range is a member
+pub index_member : (xs : List ℕ) (i : ℕ) → i < length xs → IsMember xs (slice_index xs i)
+index_member [] i h = absurd (omega arith)
+index_member (x ∷ xs) zero h = inl refl
+index_member (x ∷ xs) (suc i) h = inr (index_member xs i (omega arith))
+
+-- the numbers noted for definitions are those of definitions
+numbers_below : (x : List ℕ) (k : ℕ) (ds : List Definition) (n : ℕ) → IsMember (numbers_of x (definition_notes k ds)) n → n < k + length ds
+numbers_below x k [] n h = elim h [ ]
+numbers_below x k (d ∷ ds) n h = below (pointwise nat_eq x d.name) (numbers_of x (definition_notes (k + 1) ds)) (λ m. omega (arith, numbers_below x (k + 1) ds n m)) h
+  where
+    below : (b : Bool) (ns : List ℕ) → (IsMember ns n → n < k + suc (length ds)) → IsMember (cond b (k ∷ ns) ns) n → n < k + suc (length ds)
+    below true ns step (inl e) = omega (arith, e)
+    below true ns step (inr m) = step m
+    below false ns step m = step m
+
+two_within : (ns : List ℕ) (count : ℕ) → ((n : ℕ) → IsMember ns n → n < count) → IfSome (two_of ns) (IsWithinCount count)
+two_within [] count h = tt
+two_within (a ∷ []) count h = record { first = h a (inl refl); second = tt }
+two_within (a ∷ b ∷ ns) count h = record { first = h a (inl refl); second = h b (inr (inl refl)) }
+
+-- the first two definitions under a name are definitions
+pub named_within : (x : List ℕ) (ds : List Definition) → IfSome (two_of (numbers_of x (definition_notes 0 ds))) (IsWithinCount (length ds))
+named_within x ds = two_within (numbers_of x (definition_notes 0 ds)) (length ds) (λ n m. omega (arith, numbers_below x 0 ds n m))

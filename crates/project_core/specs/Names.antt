@@ -1,5 +1,5 @@
 -- What a table of names keeps: of the numbers noted under each name the least two.
-use Rattle.std.specs.Prelude.{◌≡◌, ℕ, ◌+◌, cond, nat_eq, List, [], ◌∷◌, Option, Some, None, unwrap_or}
+use Rattle.std.specs.Prelude.{◌≡◌, ◌<◌, IfSome, ℕ, ◌+◌, cond, nat_eq, List, [], ◌∷◌, Option, Some, None, unwrap_or}
 use Rattle.std.specs.Map.{lookup}
 use Rattle.std.specs.Option.{option_map_or}
 use Rattle.std.specs.Cmp.Lexicographic.{pointwise}
@@ -39,3 +39,8 @@ definition_notes k (d ∷ ds) = (d.name, k) ∷ definition_notes (k + 1) ds
 abbrev pub generals_from : ℕ → List Definition → List ℕ
 generals_from k [] = []
 generals_from k (d ∷ ds) = option_map_or (λ g. k ∷ generals_from (k + 1) ds) d.general (generals_from (k + 1) ds)
+
+-- both numbers are below the count
+pub record IsWithinCount (count : ℕ) (b : Bearers) : Type 0 where
+  pub first : b.first < count
+  pub second : IfSome b.second (λ s. s < count)

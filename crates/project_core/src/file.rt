@@ -1,11 +1,12 @@
-ghost use Rattle.std.specs.Prelude.{◌≡◌, ◌≤◌, ◌<◌, ◌^◌, ◌++◌, ◌∷◌, [], OnOk, IfOk, IfSome, length, option_copied};
+ghost use Rattle.std.specs.Prelude.{◌≡◌, ◌≤◌, ◌<◌, ◌^◌, ◌++◌, ◌∷◌, [], OnOk, IfOk, IfSome, length, slice_index, option_copied};
+ghost use Rattle.project_core.specs.Lookup.{general_at};
 ghost use Rattle.std.specs.Option.{option_map_or};
 ghost use Rattle.first_reader.specs.Grammar.{package_of};
-ghost use Rattle.project_core.specs.Names.{IsTable, numbers_of, two_of, definition_notes, generals_from};
+ghost use Rattle.project_core.specs.Names.{IsTable, IsWithinCount, numbers_of, two_of, definition_notes, generals_from};
 
 use crate::names::{Bearers, NameTable};
 use element_store::{Name, Text};
-use first_reader::{Definition, Package, read};
+use first_reader::{Definition, Package, Written, read};
 use linker_base::{Listing, NoMemory};
 use std::alloc::Global;
 use std::marker::Model;
@@ -96,14 +97,28 @@ impl FileModel {
 
     /// Lends the numbers of the definitions that have a general, in order.
     pub fn generals(&self) -> &[u32]
-        ensures { result.now ≡ generals_from 0 self.now.definitions }
+        ensures lent { result.now ≡ generals_from 0 self.now.definitions }
+        ensures few { length result.now ≤ length self.now.definitions }
     {
         self.generals.as_slice()
     }
 
+    /// Lends the general of the reference with the number.
+    pub fn general(&self, reference: usize) -> &Written
+        requires { reference < length (generals_from 0 self.now.definitions) }
+        ensures { result.now ≡ general_at self.now.definitions (slice_index (generals_from 0 self.now.definitions) reference) }
+    {
+        let number = self.generals.as_slice()[reference];
+        match &self.package.definitions.as_slice()[number as usize].general {
+            Some(general) => general,
+            None => unreachable!(),
+        }
+    }
+
     /// The first two definitions that bear the name, by their numbers in the package, from 0.
     pub fn named(&self, name: &Name) -> Option<Bearers>
-        ensures { result ≡ two_of (numbers_of name.now (definition_notes 0 self.now.definitions)) }
+        ensures found { result ≡ two_of (numbers_of name.now (definition_notes 0 self.now.definitions)) }
+        ensures within { IfSome result (IsWithinCount (length self.now.definitions)) }
     {
         self.names.find(name)
     }

@@ -6,6 +6,7 @@
 
 mod faults;
 mod file;
+mod links;
 mod names;
 mod place;
 mod project;

@@ -166,13 +166,13 @@ impl Project {
         }
     }
 
-    /// The name with the number, if there is one.
-    pub(crate) fn name(&self, number: u32) -> Option<&FileName>
-        ensures { option_map_or (λ name. name) (option_copied result) [] ≡ name_at self.now number }
+    /// The name with the number; nothing where there is none.
+    pub(crate) fn name(&self, number: u32) -> &[u8]
+        ensures { result.now ≡ name_at self.now number }
     {
         match self.files.get_index(number as usize) {
-            Some((name, _)) => Some(name),
-            None => None,
+            Some((name, _)) => name.bytes(),
+            None => &[],
         }
     }
 
