@@ -3,3 +3,4 @@ pub mod FileLaws
 pub mod LinkLaws
 pub mod NameLaws
 pub mod PlaceLaws
+pub mod QueryLaws

@@ -251,21 +251,21 @@ tables_ask f p roots x notes table last =
     ∙ ap (λ o. option_map_or (outcome_by (definition_hit f)) (two_of (numbers_of x (definition_notes 0 p.definitions))) (cond (pointwise nat_eq x p.name) (Linked [] (record { file = f; index = 1 })) (option_map_or (outcome_by root_hit) o (Absent 1))))
     (sym (table x))
 
-get_two : {A : Type 0} (a b : A) (xs : List A) (i : ℕ) → slice_get (a ∷ b ∷ xs) (i + 2) ≡ slice_get xs i
+pub get_two : {A : Type 0} (a b : A) (xs : List A) (i : ℕ) → slice_get (a ∷ b ∷ xs) (i + 2) ≡ slice_get xs i
 get_two a b xs i = let e : i + 2 ≡ suc (suc i) = omega arith in rw e refl
 
-get_there : {A : Type 0} (xs : List A) (i : ℕ) → i < length xs → (x : A) × (slice_get xs i ≡ Some x)
+pub get_there : {A : Type 0} (xs : List A) (i : ℕ) → i < length xs → (x : A) × (slice_get xs i ≡ Some x)
 get_there [] i h = absurd (omega arith)
 get_there (x ∷ xs) zero h = (x, refl)
 get_there (x ∷ xs) (suc i) h = get_there xs i (omega arith)
 
-get_map : (ds : List Definition) (i : ℕ) (d : Definition) → slice_get ds i ≡ Some d → slice_get (map definition_element ds) i ≡ Some (definition_element d)
+pub get_map : (ds : List Definition) (i : ℕ) (d : Definition) → slice_get ds i ≡ Some d → slice_get (map definition_element ds) i ≡ Some (definition_element d)
 get_map [] i d e = cc
 get_map (c ∷ ds) zero d e = let same : c ≡ d = cc in ap (λ b. Some (definition_element b)) same
 get_map (c ∷ ds) (suc i) d e = get_map ds i d e
 
 -- the package owns each of its definitions
-definition_owner : (p : Package) (i : ℕ) → i < length p.definitions → owner_in (model_of p).elements (i + 2) ≡ Some 1
+pub definition_owner : (p : Package) (i : ℕ) → i < length p.definitions → owner_in (model_of p).elements (i + 2) ≡ Some 1
 definition_owner p i h =
     let d = get_there p.definitions i h in
     ap (λ o. option_map_or (λ e. e.owner) o None) (get_two _ _ (map definition_element p.definitions) i ∙ get_map p.definitions i d.0 d.1)

@@ -10,6 +10,7 @@ mod links;
 mod names;
 mod place;
 mod project;
+mod queries;
 mod rows;
 
 pub use faults::{ApplyFault, FileFault, QueryFault};

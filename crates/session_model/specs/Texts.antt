@@ -95,3 +95,7 @@ abbrev pub path_text : List (List ℕ) → List ℕ
 path_text [] = []
 path_text (x ∷ []) = spelt_name x
 path_text (x ∷ y ∷ more) = spelt_name x ++ codes "::" ++ path_text (y ∷ more)
+
+-- the written name of a reference, as it is printed
+abbrev pub reference_text : Files → RefNo → List ℕ
+reference_text files r = option_map_or (λ reference. path_text reference.path) (slice_get (references_of files r.file) r.index) []

@@ -1,0 +1,98 @@
+-- What the queries read of the model of a package.
+use Rattle.std.proofs.Common.{◌≡◌, ℕ, ◌+◌, ◌-◌, ◌<◌, ◌≤◌, zero, suc, List, [], ◌∷◌, ◌++◌, length, map, codes, refl, sym, ◌∙◌, ap, subst, arith, inl, inr}
+use Rattle.std.specs.Prelude.{Option, None, Some, slice_get, slice_index, slice_index_or, ◌⊎◌}
+use Rattle.std.specs.Option.{option_map_or}
+use Rattle.linker_base.proofs.Cases.{option_cases}
+use Rattle.element_store.specs.declared.numbers.ElementNo.{ElementNo}
+use Rattle.element_store.specs.declared.numbers.MemberNo.{MemberNo}
+use Rattle.element_store.specs.declared.numbers.RefNo.{RefNo}
+use Rattle.link_model.specs.Model.{Element, Member, Reference, Model, Source, Files}
+use Rattle.link_model.specs.Tiers.{elements_of, members_of, owner_in}
+use Rattle.first_reader.specs.Grammar.{package_of}
+use Rattle.first_reader.specs.PackageModel.{definition_element, definition_members, definition_references, model_of, model_from, model_of_text}
+use Rattle.first_reader.specs.declared.package.Definition.{Definition}
+use Rattle.first_reader.specs.declared.package.Package.{Package}
+use Rattle.session_model.specs.Book.{Book, text_at, name_at, file_number, files_of}
+use Rattle.std.specs.Fmt.{decimal}
+use Rattle.session_model.specs.Texts.{path_text, label_part, label_under, label_within, label_of, references_of, reference_text}
+use Rattle.project_core.specs.Names.{generals_from}
+use Rattle.project_core.specs.Lookup.{general_at, reference_at}
+use Rattle.project_core.specs.Places.{place_in, member_place, member_place_in}
+use Rattle.project_core.proofs.FileLaws.{file_there, file_absent}
+use Rattle.project_core.proofs.LinkLaws.{references_are, definition_owner, get_two, get_map, get_there}
+
+-- mapping keeps the length
+length_map : {A B : Type 0} (f : A → B) (xs : List A) → length (map f xs) ≡ length xs
+length_map f [] = refl
+length_map f (x ∷ xs) = ap suc (length_map f xs)
+
+-- a package has one element more, without the root, than definitions
+pub element_count : (p : Package) → length p.definitions + 1 ≡ length (model_of p).elements - 1
+element_count p = let n = length_map definition_element p.definitions in omega (arith, n)
+
+-- a package has as many references as definitions with a general
+pub reference_count : (p : Package) → length (generals_from 0 p.definitions) ≡ length (model_of p).references
+reference_count p = sym (ap length (references_are [] p.definitions) ∙ length_map (reference_at p.definitions) (generals_from 0 p.definitions))
+
+-- the label of a definition
+pub definition_label : (p : Package) (i : ℕ) (d : Definition) → slice_get p.definitions i ≡ Some d → i < length p.definitions
+    → label_within (model_of p).elements (length (model_of p).elements) (i + 2) ≡ (p.name ++ codes "::") ++ d.name
+definition_label p i d e h =
+    let part : label_part (model_of p).elements (i + 2) ≡ d.name =
+    ap (λ o. option_map_or (λ n. n) (option_map_or (λ element. element.name) o None) (codes "#" ++ decimal (i + 2))) (get_two _ _ (map definition_element p.definitions) i ∙ get_map p.definitions i d e) in
+    ap (label_under (label_within (model_of p).elements (suc (length (map definition_element p.definitions)))) (label_part (model_of p).elements (i + 2))) (definition_owner p i h)
+    ∙ ap (λ q. (p.name ++ codes "::") ++ q) part
+
+-- a live element is in a present file
+pub element_there : (book : Book) (e : ElementNo) → e.index < length (elements_of (files_of book) e.file) → (text : List ℕ) × (text_at book e.file.0 ≡ Some text) × (e.index < length (model_of_text text).elements)
+element_there book e h = elim (option_cases (text_at book e.file.0)) [
+  | inl none ↦ absurd (omega (arith, subst (λ o. e.index < length (option_map_or (λ s. s.model.elements) o [])) (file_absent book e.file.0 none) h))
+  | inr some ↦ (some.0, some.1, subst (λ o. e.index < length (option_map_or (λ s. s.model.elements) o [])) (file_there book e.file.0 some.0 some.1) h)
+]
+
+-- a live member is in a present file
+pub member_there : (book : Book) (m : MemberNo) → m.index < length (members_of (files_of book) m.file) → (text : List ℕ) × (text_at book m.file.0 ≡ Some text) × (m.index < length (model_of_text text).members)
+member_there book m h = elim (option_cases (text_at book m.file.0)) [
+  | inl none ↦ absurd (omega (arith, subst (λ o. m.index < length (option_map_or (λ s. s.model.members) o [])) (file_absent book m.file.0 none) h))
+  | inr some ↦ (some.0, some.1, subst (λ o. m.index < length (option_map_or (λ s. s.model.members) o [])) (file_there book m.file.0 some.0 some.1) h)
+]
+
+-- a live reference is in a present file
+pub reference_there : (book : Book) (r : RefNo) → r.index < length (references_of (files_of book) r.file) → (text : List ℕ) × (text_at book r.file.0 ≡ Some text) × (r.index < length (model_of_text text).references)
+reference_there book r h = elim (option_cases (text_at book r.file.0)) [
+  | inl none ↦ absurd (omega (arith, subst (λ o. r.index < length (option_map_or (λ s. s.model.references) o [])) (file_absent book r.file.0 none) h))
+  | inr some ↦ (some.0, some.1, subst (λ o. r.index < length (option_map_or (λ s. s.model.references) o [])) (file_there book r.file.0 some.0 some.1) h)
+]
+
+-- the label of an element of a file
+pub label_there : (book : Book) (e : ElementNo) (text : List ℕ) → text_at book e.file.0 ≡ Some text
+    → label_of (files_of book) e ≡ label_within (model_of_text text).elements (length (model_of_text text).elements) e.index
+label_there book e text here = ap (λ o. label_within (option_map_or (λ s. s.model.elements) o []) (length (option_map_or (λ s. s.model.elements) o [])) e.index) (file_there book e.file.0 text here)
+
+-- the place of a member of a file
+pub member_placed : (book : Book) (m : MemberNo) (text : List ℕ) → text_at book m.file.0 ≡ Some text
+    → member_place_in (files_of book) m ≡ place_in text (option_map_or (λ member. member.place) (slice_get (model_of_text text).members m.index) 0)
+member_placed book m text here = ap (λ o. member_place o m.index) (file_there book m.file.0 text here)
+
+get_member_place : (e : ℕ) (ds : List Definition) (i : ℕ) (d : Definition) → slice_get ds i ≡ Some d → option_map_or (λ member. member.place) (slice_get (definition_members e ds) i) 0 ≡ d.place
+get_member_place e [] i d is = cc
+get_member_place e (c ∷ ds) zero d is = let same : c ≡ d = cc in ap (λ b. b.place) same
+get_member_place e (c ∷ ds) (suc i) d is = get_member_place (e + 1) ds i d is
+
+-- the place of a definition as a member
+pub definition_place : (p : Package) (i : ℕ) (d : Definition) → slice_get p.definitions i ≡ Some d → option_map_or (λ member. member.place) (slice_get (model_of p).members (i + 1)) 0 ≡ d.place
+definition_place p i d is = let e : i + 1 ≡ suc i = omega arith in rw e (get_member_place 2 p.definitions i d is)
+
+get_map_at : (ds : List Definition) (ks : List ℕ) (r : ℕ) → r < length ks → slice_get (map (reference_at ds) ks) r ≡ Some (reference_at ds (slice_index ks r))
+get_map_at ds [] r h = absurd (omega arith)
+get_map_at ds (k ∷ ks) zero h = refl
+get_map_at ds (k ∷ ks) (suc r) h = get_map_at ds ks r (omega arith)
+
+-- the written name of a reference
+pub reference_written : (book : Book) (r : RefNo) (text : List ℕ) (p : Package) → text_at book r.file.0 ≡ Some text → package_of text ≡ Some p → r.index < length (generals_from 0 p.definitions)
+    → reference_text (files_of book) r ≡ (general_at p.definitions (slice_index (generals_from 0 p.definitions) r.index)).name
+reference_written book r text p here is h =
+    ap (λ o. option_map_or (λ reference. path_text reference.path) (slice_get (option_map_or (λ s. s.model.references) o []) r.index) [])
+    (file_there book r.file.0 text here ∙ ap (λ o. Some (record { name = name_at book r.file.0; text = text; model = model_from o })) is)
+    ∙ ap (λ rs. option_map_or (λ reference. path_text reference.path) (slice_get rs r.index) []) (references_are [] p.definitions)
+    ∙ ap (λ o. option_map_or (λ reference. path_text reference.path) o []) (get_map_at p.definitions (generals_from 0 p.definitions) r.index h)
