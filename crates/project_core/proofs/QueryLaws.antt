@@ -96,3 +96,50 @@ reference_written book r text p here is h =
     (file_there book r.file.0 text here ∙ ap (λ o. Some (record { name = name_at book r.file.0; text = text; model = model_from o })) is)
     ∙ ap (λ rs. option_map_or (λ reference. path_text reference.path) (slice_get rs r.index) []) (references_are [] p.definitions)
     ∙ ap (λ o. option_map_or (λ reference. path_text reference.path) o []) (get_map_at p.definitions (generals_from 0 p.definitions) r.index h)
+
+member_count : (e : ℕ) (ds : List Definition) → length (definition_members e ds) ≡ length ds
+member_count e [] = refl
+member_count e (d ∷ ds) = ap suc (member_count (e + 1) ds)
+
+-- the number of a member below the root's own is that of a definition
+pub member_below : (p : Package) (index : ℕ) → index < length (model_of p).members → (index ≡ 0 → ⊥) → index - 1 < length p.definitions
+member_below p zero h some = absurd (some refl)
+member_below p (suc index) h some = omega (arith, h, member_count 2 p.definitions)
+
+-- the place of a member below the root's own
+pub member_begin : (p : Package) (index : ℕ) (d : Definition) → (index ≡ 0 → ⊥) → slice_get p.definitions (index - 1) ≡ Some d → d.place ≡ option_map_or (λ member. member.place) (slice_get (model_of p).members index) 0
+member_begin p zero d some is = absurd (some refl)
+member_begin p (suc index) d some is =
+    let e : suc index - 1 ≡ index = omega arith in
+    sym (get_member_place 2 p.definitions index d (subst (λ i. slice_get p.definitions i ≡ Some d) e is))
+
+-- the number of an element above the package is that of a definition
+pub element_below : (p : Package) (index : ℕ) → index < length (model_of p).elements → (index ≡ 0 → ⊥) → (index ≡ 1 → ⊥) → index - 2 < length p.definitions
+element_below p zero h some more = absurd (some refl)
+element_below p (suc zero) h some more = absurd (more refl)
+element_below p (suc (suc index)) h some more = omega (arith, h, length_map definition_element p.definitions)
+
+-- the label of an element above the package
+pub element_named : (p : Package) (index : ℕ) (d : Definition) → index < length (model_of p).elements → (index ≡ 0 → ⊥) → (index ≡ 1 → ⊥) → slice_get p.definitions (index - 2) ≡ Some d
+    → (p.name ++ codes "::") ++ d.name ≡ label_within (model_of p).elements (length (model_of p).elements) index
+element_named p zero d h some more is = absurd (some refl)
+element_named p (suc zero) d h some more is = absurd (more refl)
+element_named p (suc (suc index)) d h some more is =
+    let e : suc (suc index) - 2 ≡ index = omega arith in
+    let there : index + 2 ≡ suc (suc index) = omega arith in
+    sym (subst (λ i. label_within (model_of p).elements (length (model_of p).elements) i ≡ (p.name ++ codes "::") ++ d.name) there
+    (definition_label p index d (subst (λ i. slice_get p.definitions i ≡ Some d) e is) (omega (arith, element_below p (suc (suc index)) h some more))))
+
+-- a live reference of a package's file has a general
+pub reference_live : (book : Book) (r : RefNo) (text : List ℕ) (p : Package) → text_at book r.file.0 ≡ Some text → package_of text ≡ Some p → r.index < length (references_of (files_of book) r.file)
+    → r.index < length (generals_from 0 p.definitions)
+reference_live book r text p here is h =
+    let there = ap (λ o. length (option_map_or (λ s. s.model.references) o []))
+    (file_there book r.file.0 text here ∙ ap (λ o. Some (record { name = name_at book r.file.0; text = text; model = model_from o })) is) in
+    omega (arith, h, there, reference_count p)
+
+-- the label of an element of a package's file
+pub label_in_package : (book : Book) (e : ElementNo) (text : List ℕ) (p : Package) → text_at book e.file.0 ≡ Some text → package_of text ≡ Some p
+    → label_of (files_of book) e ≡ label_within (model_of p).elements (length (model_of p).elements) e.index
+label_in_package book e text p here is =
+    label_there book e text here ∙ ap (λ o. label_within (model_from o).elements (length (model_from o).elements) e.index) is

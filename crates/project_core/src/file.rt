@@ -1,4 +1,4 @@
-ghost use Rattle.std.specs.Prelude.{◌≡◌, ◌≤◌, ◌<◌, ◌^◌, ◌++◌, ◌∷◌, [], OnOk, IfOk, IfSome, length, slice_index, option_copied};
+ghost use Rattle.std.specs.Prelude.{◌≡◌, ◌≤◌, ◌<◌, ◌^◌, ◌++◌, ◌∷◌, [], OnOk, IfOk, IfSome, length, slice_index, slice_get, Some, option_copied};
 ghost use Rattle.project_core.specs.Lookup.{general_at};
 ghost use Rattle.std.specs.Option.{option_map_or};
 ghost use Rattle.first_reader.specs.Grammar.{package_of};
@@ -93,6 +93,14 @@ impl FileModel {
         ensures { result.now ≡ self.now }
     {
         &self.package
+    }
+
+    /// Lends the definition with the number.
+    pub fn definition(&self, number: usize) -> &Definition
+        requires { number < length self.now.definitions }
+        ensures { slice_get self.now.definitions number ≡ Some result.now }
+    {
+        &self.package.definitions.as_slice()[number]
     }
 
     /// Lends the numbers of the definitions that have a general, in order.
