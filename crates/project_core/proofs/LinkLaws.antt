@@ -27,9 +27,10 @@ use Rattle.element_store.specs.declared.outcome.Role.TheVariants.{Subclass}
 use Rattle.project_core.specs.Names.{numbers_of, two_of, bearers_in, definition_notes, generals_from, IsTable}
 use Rattle.project_core.specs.Lookup.{definition_hit, root_hit, outcome_by, found_in, package_there, root_note, root_notes, general_of, general_at, reference_at, table_row, table_rows}
 use Rattle.project_core.specs.Places.{place_in}
-use Rattle.project_core.specs.Rows.{link_rows, rows_of, rows_in}
+use Rattle.session_model.specs.Texts.{references_of}
+use Rattle.project_core.specs.Rows.{link_rows, rows_of, rows_in, IsLiveElement, IsLiveMember, IsLiveReference, IsLiveOutcome, AreLive}
 use Rattle.project_core.specs.declared.faults.QueryFault.TheVariants.{NoSuchFile}
-use Rattle.project_core.proofs.NameLaws.{index_member}
+use Rattle.project_core.proofs.NameLaws.{index_member, numbers_below}
 use Rattle.project_core.proofs.FileLaws.{file_there, file_absent, number_text}
 
 -- the first two of these hits lead to different elements
@@ -438,3 +439,92 @@ table_rows_next f text p roots i rows row so next h =
   where
     take_fits : (i : ℕ) (gs : List ℕ) → i < length gs → length (take i gs) ≡ i
     take_fits i gs h = search rules
+
+-- a file with the package has these elements and members
+live_in : (book : Book) (k : ℕ) (text : List ℕ) (p : Package) → text_at book k ≡ Some text → package_of text ≡ Some p
+    → (elements_of (files_of book) (file_number k) ≡ (model_of p).elements) × (members_of (files_of book) (file_number k) ≡ (model_of p).members)
+live_in book k text p here is =
+    let file_is : (files_of book).file (file_number k) ≡ Some (record { name = name_at book k; text = text; model = model_of p }) =
+    file_there book k text here ∙ ap (λ o. Some (record { name = name_at book k; text = text; model = model_from o })) is in
+    (ap (λ o. option_map_or (λ s. s.model.elements) o []) file_is, ap (λ o. option_map_or (λ s. s.model.members) o []) file_is)
+
+count_members : (e : ℕ) (ds : List Definition) → length (definition_members e ds) ≡ length ds
+count_members e [] = refl
+count_members e (d ∷ ds) = ap suc (count_members (e + 1) ds)
+
+count_elements : (ds : List Definition) → length (map definition_element ds) ≡ length ds
+count_elements [] = refl
+count_elements (d ∷ ds) = ap suc (count_elements ds)
+
+-- the hits of definitions are live
+definition_lives : (book : Book) (k : ℕ) (text : List ℕ) (p : Package) (n : ℕ) → text_at book k ≡ Some text → package_of text ≡ Some p → n < length p.definitions
+    → IsLiveElement book (definition_hit (file_number k) n).element × IsLiveMember book (definition_hit (file_number k) n).member
+definition_lives book k text p n here is h =
+    let there = live_in book k text p here is in
+    (rw there.0 (omega (arith, h, count_elements p.definitions)), rw there.1 (omega (arith, h, count_members 2 p.definitions)))
+
+-- the hit of a package is live
+root_lives : (book : Book) (k : ℕ) (text : List ℕ) (p : Package) → text_at book k ≡ Some text → package_of text ≡ Some p → IsLiveElement book (root_hit k).element × IsLiveMember book (root_hit k).member
+root_lives book k text p here is =
+    let there = live_in book k text p here is in
+    (rw there.0 (omega arith), rw there.1 (omega arith))
+
+-- a number noted for a package is that of a file with a package
+roots_there : (book : Book) (x : List ℕ) (ks : List ℕ) (m : ℕ) → IsMember (numbers_of x (root_notes book ks)) m → (text : List ℕ) × (p : Package) × (text_at book m ≡ Some text) × (package_of text ≡ Some p)
+roots_there book x [] m h = elim h [ ]
+roots_there book x (k ∷ ks) m h = among (text_at book k) refl (root_notes book ks) (roots_there book x ks m) h
+  where
+    There : Type 0
+    There = (text : List ℕ) × (p : Package) × (text_at book m ≡ Some text) × (package_of text ≡ Some p)
+
+    in_cond : (b : Bool) (ns : List ℕ) → (k ≡ m → There) → (IsMember ns m → There) → IsMember (cond b (k ∷ ns) ns) m → There
+    in_cond true ns here step (inl e) = here e
+    in_cond true ns here step (inr g) = step g
+    in_cond false ns here step g = step g
+
+    with_package : (text : List ℕ) → text_at book k ≡ Some text → (o : Option Package) → package_of text ≡ o → (notes : List (List ℕ × ℕ)) → (IsMember (numbers_of x notes) m → There)
+        → IsMember (numbers_of x (option_map_or (λ p. (p.name, k) ∷ notes) o notes)) m → There
+    with_package text here None is notes step g = step g
+    with_package text here (Some p) is notes step g =
+        in_cond (pointwise nat_eq x p.name) (numbers_of x notes) (λ e. (text, p, subst (λ n. text_at book n ≡ Some text) e here, is)) step g
+
+    among : (o : Option (List ℕ)) → text_at book k ≡ o → (notes : List (List ℕ × ℕ)) → (IsMember (numbers_of x notes) m → There)
+        → IsMember (numbers_of x (option_map_or (λ p. (p.name, k) ∷ notes) (package_there o) notes)) m → There
+    among None here notes step g = step g
+    among (Some text) here notes step g = with_package text here (package_of text) refl notes step g
+
+-- the outcome of two least hits that are live is live
+outcome_lives : (book : Book) (hit : ℕ → Hit) (ns : List ℕ) → ((n : ℕ) → IsMember ns n → IsLiveElement book (hit n).element × IsLiveMember book (hit n).member)
+    → IsLiveOutcome book (option_map_or (outcome_by hit) (two_of ns) (Absent 1))
+outcome_lives book hit [] live = tt
+outcome_lives book hit (a ∷ []) live = (live a (inl refl)).0
+outcome_lives book hit (a ∷ b ∷ ns) live = ((live a (inl refl)).1, (live b (inr (inl refl))).1)
+
+-- the outcome of a name by the tables names what stands in present files
+pub found_lives : (book : Book) (k : ℕ) (text : List ℕ) (p : Package) (roots : List (List ℕ × Bearers)) (x : List ℕ) → text_at book k ≡ Some text → package_of text ≡ Some p → IsTable roots (root_notes book (ranked book))
+    → IsLiveOutcome book (found_in (file_number k) p roots x)
+found_lives book k text p roots x here is table =
+    by_definitions (numbers_of x (definition_notes 0 p.definitions))
+    (outcome_lives book (definition_hit (file_number k)) (numbers_of x (definition_notes 0 p.definitions))
+    (λ n m. definition_lives book k text p n here is (omega (arith, numbers_below x 0 p.definitions n m))))
+  where
+    by_roots : IsLiveOutcome book (option_map_or (outcome_by root_hit) (bearers_in roots x) (Absent 1))
+    by_roots = rw (table x) (outcome_lives book root_hit (numbers_of x (root_notes book (ranked book)))
+        (λ n m. let t = roots_there book x (ranked book) n m in root_lives book n t.0 t.1 t.2 t.3))
+
+    by_name : (b : Bool) → IsLiveOutcome book (cond b (Linked [] (record { file = file_number k; index = 1 })) (option_map_or (outcome_by root_hit) (bearers_in roots x) (Absent 1)))
+    by_name true = (root_lives book k text p here is).0
+    by_name false = by_roots
+
+    by_definitions : (ns : List ℕ) → IsLiveOutcome book (option_map_or (outcome_by (definition_hit (file_number k))) (two_of ns) (Absent 1))
+        → IsLiveOutcome book (option_map_or (outcome_by (definition_hit (file_number k))) (two_of ns) (cond (pointwise nat_eq x p.name) (Linked [] (record { file = file_number k; index = 1 })) (option_map_or (outcome_by root_hit) (bearers_in roots x) (Absent 1))))
+    by_definitions [] live = by_name (pointwise nat_eq x p.name)
+    by_definitions (a ∷ []) live = live
+    by_definitions (a ∷ b ∷ ns) live = live
+
+-- the rows by the tables name what stands in present files
+pub rows_live : (book : Book) (k : ℕ) (text : List ℕ) (p : Package) (roots : List (List ℕ × Bearers)) → text_at book k ≡ Some text → package_of text ≡ Some p → IsTable roots (root_notes book (ranked book))
+    → (j : ℕ) (ks : List ℕ) → j + length ks ≤ length (references_of (files_of book) (file_number k)) → AreLive book (table_rows (file_number k) text p roots j ks)
+rows_live book k text p roots here is table j [] h = tt
+rows_live book k text p roots here is table j (i ∷ ks) h =
+    (omega (arith, h), found_lives book k text p roots (general_at p.definitions i).name here is table, rows_live book k text p roots here is table (j + 1) ks (omega (arith, h)))

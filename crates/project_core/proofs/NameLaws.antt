@@ -116,7 +116,7 @@ index_member (x ∷ xs) zero h = inl refl
 index_member (x ∷ xs) (suc i) h = inr (index_member xs i (omega arith))
 
 -- the numbers noted for definitions are those of definitions
-numbers_below : (x : List ℕ) (k : ℕ) (ds : List Definition) (n : ℕ) → IsMember (numbers_of x (definition_notes k ds)) n → n < k + length ds
+pub numbers_below : (x : List ℕ) (k : ℕ) (ds : List Definition) (n : ℕ) → IsMember (numbers_of x (definition_notes k ds)) n → n < k + length ds
 numbers_below x k [] n h = elim h [ ]
 numbers_below x k (d ∷ ds) n h = below (pointwise nat_eq x d.name) (numbers_of x (definition_notes (k + 1) ds)) (λ m. omega (arith, numbers_below x (k + 1) ds n m)) h
   where

@@ -12,14 +12,16 @@ use Rattle.first_reader.specs.Grammar.{package_of}
 use Rattle.first_reader.specs.PackageModel.{definition_element, definition_members, definition_references, model_of, model_from, model_of_text}
 use Rattle.first_reader.specs.declared.package.Definition.{Definition}
 use Rattle.first_reader.specs.declared.package.Package.{Package}
-use Rattle.session_model.specs.Book.{Book, text_at, name_at, file_number, files_of}
+use Rattle.session_model.specs.Book.{Book, text_at, name_at, ranked, file_number, files_of}
 use Rattle.std.specs.Fmt.{decimal}
 use Rattle.session_model.specs.Texts.{path_text, label_part, label_under, label_within, label_of, references_of, reference_text}
-use Rattle.project_core.specs.Names.{generals_from}
-use Rattle.project_core.specs.Lookup.{general_at, reference_at}
+use Rattle.project_core.specs.declared.names.Bearers.{Bearers}
+use Rattle.project_core.specs.Rows.{AreLive}
+use Rattle.project_core.specs.Names.{generals_from, IsTable}
+use Rattle.project_core.specs.Lookup.{general_at, reference_at, root_notes, table_rows}
 use Rattle.project_core.specs.Places.{place_in, member_place, member_place_in}
 use Rattle.project_core.proofs.FileLaws.{file_there, file_absent}
-use Rattle.project_core.proofs.LinkLaws.{references_are, definition_owner, get_two, get_map, get_there}
+use Rattle.project_core.proofs.LinkLaws.{rows_live, references_are, definition_owner, get_two, get_map, get_there}
 
 -- mapping keeps the length
 length_map : {A B : Type 0} (f : A → B) (xs : List A) → length (map f xs) ≡ length xs
@@ -143,3 +145,11 @@ pub label_in_package : (book : Book) (e : ElementNo) (text : List ℕ) (p : Pack
     → label_of (files_of book) e ≡ label_within (model_of p).elements (length (model_of p).elements) e.index
 label_in_package book e text p here is =
     label_there book e text here ∙ ap (λ o. label_within (model_from o).elements (length (model_from o).elements) e.index) is
+
+-- all rows of a package's file name what stands in present files
+pub all_live : (book : Book) (k : ℕ) (text : List ℕ) (p : Package) (roots : List (List ℕ × Bearers)) → text_at book k ≡ Some text → package_of text ≡ Some p → IsTable roots (root_notes book (ranked book))
+    → AreLive book (table_rows (file_number k) text p roots 0 (generals_from 0 p.definitions))
+all_live book k text p roots here is table =
+    let there = ap (λ o. length (option_map_or (λ s. s.model.references) o []))
+    (file_there book k text here ∙ ap (λ o. Some (record { name = name_at book k; text = text; model = model_from o })) is) in
+    rows_live book k text p roots here is table 0 (generals_from 0 p.definitions) (omega (arith, there, reference_count p))

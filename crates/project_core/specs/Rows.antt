@@ -5,6 +5,8 @@ use Rattle.element_store.specs.declared.numbers.FileNo.{FileNo}
 use Rattle.element_store.specs.declared.numbers.ElementNo.{ElementNo}
 use Rattle.element_store.specs.declared.numbers.MemberNo.{MemberNo}
 use Rattle.element_store.specs.declared.numbers.RefNo.{RefNo}
+use Rattle.element_store.specs.declared.outcome.Outcome.{Outcome}
+use Rattle.element_store.specs.declared.outcome.Outcome.TheVariants.{Linked, Absent, Ambiguous, Hidden, Cyclic}
 use Rattle.link_model.specs.Model.{Model, Member, Reference, Source, Files}
 use Rattle.link_model.specs.Tiers.{members_of, elements_of}
 use Rattle.link_model.specs.Linking.{ask}
@@ -62,3 +64,16 @@ IsLiveMember book m = m.index < length (members_of (files_of book) m.file)
 
 abbrev pub IsLiveReference : Book → RefNo → Type 0
 IsLiveReference book r = r.index < length (references_of (files_of book) r.file)
+
+-- what the outcome names stands in present files; none of the first path is hidden or cyclic
+abbrev pub IsLiveOutcome : Book → Outcome → Type 0
+IsLiveOutcome book (Linked steps e) = IsLiveElement book e
+IsLiveOutcome book (Absent segment) = Unit {0}
+IsLiveOutcome book (Ambiguous segment a b) = IsLiveMember book a × IsLiveMember book b
+IsLiveOutcome book (Hidden segment m) = ⊥
+IsLiveOutcome book (Cyclic r) = ⊥
+
+-- what the rows name stands in present files
+abbrev pub AreLive : Book → List LinkRow → Type 0
+AreLive book [] = Unit {0}
+AreLive book (row ∷ rows) = IsLiveReference book row.reference × IsLiveOutcome book row.outcome × AreLive book rows

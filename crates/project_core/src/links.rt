@@ -9,7 +9,7 @@ ghost use Rattle.session_model.specs.Book.{text_at, text_in, name_at, rank, rank
 ghost use Rattle.project_core.specs.Names.{IsTable, generals_from};
 ghost use Rattle.project_core.specs.Places.{IsAt};
 ghost use Rattle.project_core.specs.Lookup.{definition_hit, root_hit, outcome_by, found_in, root_note, root_notes, table_row, table_rows};
-ghost use Rattle.project_core.specs.Rows.{link_rows, rows_in, Answers};
+ghost use Rattle.project_core.specs.Rows.{link_rows, rows_in, Answers, AreLive};
 
 use crate::faults::QueryFault;
 use crate::file::{File, FileModel};
@@ -252,7 +252,8 @@ impl Project {
     /// The references of the file under the name with their outcomes, in rising place. `NoSuchFile`
     /// comes exactly where the book has no text under the name.
     pub fn links(&self, name: &FileName) -> Result<LinkRows, QueryFault>
-        ensures { Answers result (rows_in self.now name.now) }
+        ensures rows { Answers result (rows_in self.now name.now) }
+        ensures live { IfOk result (AreLive self.now) }
     {
         let Some(number) = self.number(name) else {
             return Err(QueryFault::NoSuchFile);
