@@ -17,7 +17,7 @@ use Rattle.session_model.specs.Texts.{place_text, outcome_text, role_text, path_
 -- the answer of a put, without its LF: the numbers of elements, without the root, and of references; or the refusal
 abbrev pub put_result : List ℕ → Option Package → List ℕ
 put_result text (Some p) = codes " elements " ++ decimal (length (model_of p).elements - 1) ++ codes " references " ++ decimal (length (model_of p).references)
-put_result text None = codes " refused " ++ place_text text 0 ++ codes " Syntax"
+put_result text None = codes " refused " ++ place_text text 0 ++ codes " " ++ codes "Syntax"
 
 -- the row of a reference
 abbrev pub link_row : Files → FileNo → Source → Reference → List ℕ
