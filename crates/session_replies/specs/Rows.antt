@@ -1,5 +1,6 @@
 -- Rows of links as they are printed.
-use Rattle.std.specs.Prelude.{◌≡◌, ℕ, List, [], ◌∷◌, ◌++◌, codes}
+use Rattle.std.specs.Prelude.{◌≡◌, ℕ, List, [], ◌∷◌, ◌++◌, length, codes}
+use Rattle.std.specs.List.{flat_map}
 use Rattle.std.specs.Fmt.{decimal}
 use Rattle.session_model.specs.Book.{Book, Edited, edited}
 use Rattle.session_model.specs.Commands.{Command}
@@ -23,6 +24,10 @@ printed_place place = decimal place.line ++ codes ":" ++ decimal place.column
 -- a row as a line
 abbrev pub row_text : Files → LinkRow → List ℕ
 row_text files row = printed_place row.place ++ codes " " ++ role_text row.role ++ codes " " ++ reference_text files row.reference ++ codes " -> " ++ outcome_text files row.outcome ++ codes "\n"
+
+-- the answer of `links` where there are these rows
+abbrev pub rows_answer : Files → List ℕ → List LinkRow → List ℕ
+rows_answer files name rows = flat_map (row_text files) rows ++ codes "links " ++ name ++ codes " " ++ decimal (length rows) ++ codes "\n"
 
 -- what a row names stands in present files
 abbrev pub IsLiveRow : Book → LinkRow → Type 0

@@ -72,7 +72,8 @@ fn write_member(answer: &mut Vec<u8>, project: &Project, member: MemberNo) -> Re
     };
     write(answer, file.bytes())?;
     write(answer, b":")?;
-    write_place(answer, place)
+    write_place(answer, place)?;
+    Ok(())
 }
 
 /// Writes an outcome.
