@@ -1,16 +1,14 @@
 -- What commands answer.
-use Rattle.std.specs.Prelude.{ℕ, ◌+◌, ◌-◌, List, [], ◌∷◌, ◌++◌, length, codes, Option, Some, None}
+use Rattle.std.specs.Prelude.{ℕ, ◌-◌, List, [], ◌∷◌, ◌++◌, length, codes, Option, Some, None}
 use Rattle.std.specs.Fmt.{decimal}
-use Rattle.std.specs.Option.{option_map_or}
 use Rattle.std.specs.List.{flat_map}
-use Rattle.std.specs.Map.{lookup}
 use Rattle.element_store.specs.declared.numbers.FileNo.{FileNo}
-use Rattle.link_model.specs.Model.{Model, Reference, Source, Files}
+use Rattle.link_model.specs.Model.{Reference, Source, Files}
 use Rattle.link_model.specs.Linking.{ask}
 use Rattle.first_reader.specs.Grammar.{package_of}
 use Rattle.first_reader.specs.PackageModel.{model_of}
 use Rattle.first_reader.specs.declared.package.Package.{Package}
-use Rattle.session_model.specs.Book.{Book, files_of, text_in, number_in}
+use Rattle.session_model.specs.Book.{Book, files_of, number_in}
 use Rattle.session_model.specs.Commands.{Command, book_after}
 use Rattle.session_model.specs.Texts.{place_text, outcome_text, role_text, path_text}
 
