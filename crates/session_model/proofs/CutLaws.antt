@@ -140,7 +140,7 @@ spellings_next [] c = append-nil (spelling_of c)
 spellings_next (d ∷ cs) c = ap (λ xs. spelling_of d ++ xs) (spellings_next cs c) ∙ sym (append_assoc (spelling_of d) (spellings_of cs) (spelling_of c))
 
 -- a list without LF is no longer than a line that begins so
-front_within : (front line back rest : List ℕ) → (IsMember front 10 → ⊥) → front ++ back ≡ line ++ 10 ∷ rest → length front ≤ length line
+pub front_within : (front line back rest : List ℕ) → (IsMember front 10 → ⊥) → front ++ back ≡ line ++ 10 ∷ rest → length front ≤ length line
 front_within [] line back rest free e = omega arith
 front_within (x ∷ front) [] back rest free e = let h : x ≡ 10 = cc in absurd (free (inl h))
 front_within (x ∷ front) (y ∷ line) back rest free e =

@@ -59,10 +59,10 @@ name_parts name e =
     (grind (arith, lengths.1), two.1)
 
 -- a NAME holds neither LF nor space
-name_feed : (name : List ℕ) → is_file_name name ≡ true → IsMember name 10 → ⊥
+pub name_feed : (name : List ℕ) → is_file_name name ≡ true → IsMember name 10 → ⊥
 name_feed name e = not_among is_name_byte name 10 (name_parts name e).1 refl
 
-name_space : (name : List ℕ) → is_file_name name ≡ true → IsMember name 32 → ⊥
+pub name_space : (name : List ℕ) → is_file_name name ≡ true → IsMember name 32 → ⊥
 name_space name e = not_among is_name_byte name 32 (name_parts name e).1 refl
 
 -- these texts hold no LF
