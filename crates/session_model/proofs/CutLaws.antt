@@ -5,7 +5,7 @@ use Rattle.linker_base.specs.Members.{IsMember}
 use Rattle.linker_base.proofs.MemberLaws.{member_left, member_right}
 use Rattle.session_model.specs.Book.{Book}
 use Rattle.session_model.specs.Commands.{Command, line_of, body_of, spelling_of, HasForm, HasRoom, book_after, IsAccepted}
-use Rattle.session_model.specs.Cut.{Begins, Reads, IsReading, IsCut, EndsWithEnd, spellings_of, book_left, AreOpen}
+use Rattle.session_model.specs.Cut.{Begins, Reads, IsReading, IsCut, EndsWithEnd, is_end, ends_with_end, spellings_of, book_left, AreOpen}
 use Rattle.session_model.specs.Refusals.{IsMisspelt, IsEndless, IsFormless, IsUnclosed, IsRefused}
 use Rattle.session_model.specs.Answers.{answer_of, answers_of}
 use Rattle.session_model.proofs.Lines.{spelling_same, spelt_by_line, line_feed, line_short, line_ends_once, put_line_same, same_front}
@@ -237,3 +237,20 @@ cut_ends ended cs bytes rest r stops = record { reading = r; longest = λ others
 pub cut_begins : (ended : Bool) (cs ds : List Command) (bytes rest left : List ℕ) → IsCut ended cs bytes rest → IsReading ended ds bytes left → (more : List Command) × (cs ≡ ds ++ more)
 cut_begins ended cs ds bytes rest left cut r =
     let whole = readings_agree ended [] cs ds bytes rest left cut.reading.reads r.reads (cut.longest ds left r) in (whole.0, whole.1)
+
+-- the last command is `end` where the test says so
+pub ends_true : (cs : List Command) → EndsWithEnd cs → ends_with_end cs ≡ true
+ends_true [] e = absurd e
+ends_true (c ∷ []) e = ap is_end e
+ends_true (c ∷ d ∷ cs) e = ends_true (d ∷ cs) e
+
+end_false : (c : Command) → (c ≡ Command.End → ⊥) → is_end c ≡ false
+end_false (Command.Put name text) other = refl
+end_false (Command.Links name) other = refl
+end_false Command.End other = absurd (other refl)
+
+-- and isn't where the test says no
+pub ends_false : (cs : List Command) → (EndsWithEnd cs → ⊥) → ends_with_end cs ≡ false
+ends_false [] no_end = refl
+ends_false (c ∷ []) no_end = end_false c no_end
+ends_false (c ∷ d ∷ cs) no_end = ends_false (d ∷ cs) no_end

@@ -1,5 +1,5 @@
 -- The cut of an input into commands, and the stop at its end.
-use Rattle.std.specs.Prelude.{◌≡◌, ℕ, ◌+◌, ◌^◌, ◌≤◌, Bool, true, List, [], ◌∷◌, ◌++◌, length, codes, ◌⊎◌}
+use Rattle.std.specs.Prelude.{◌≡◌, ℕ, ◌+◌, ◌^◌, ◌≤◌, Bool, true, false, List, [], ◌∷◌, ◌++◌, length, codes, ◌⊎◌}
 use Rattle.session_model.specs.Book.{Book}
 use Rattle.session_model.specs.Commands.{Command, spelling_of, book_after, IsAccepted}
 
@@ -30,6 +30,17 @@ abbrev pub EndsWithEnd : List Command → Type 0
 EndsWithEnd [] = ⊥
 EndsWithEnd (c ∷ []) = c ≡ Command.End
 EndsWithEnd (c ∷ d ∷ cs) = EndsWithEnd (d ∷ cs)
+
+-- whether it is
+abbrev pub is_end : Command → Bool
+is_end (Command.Put name text) = false
+is_end (Command.Links name) = false
+is_end Command.End = true
+
+abbrev pub ends_with_end : List Command → Bool
+ends_with_end [] = false
+ends_with_end (c ∷ []) = is_end c
+ends_with_end (c ∷ d ∷ cs) = ends_with_end (d ∷ cs)
 
 -- the spellings of commands, one after the other
 abbrev pub spellings_of : List Command → List ℕ
