@@ -1,5 +1,5 @@
 -- The commands of a script and their spellings.
-use Rattle.std.specs.Prelude.{◌≡◌, ℕ, ◌≤◌, Bool, true, List, [], ◌∷◌, ◌++◌, length, codes, Option, Some, None}
+use Rattle.std.specs.Prelude.{◌≡◌, ℕ, ◌≤◌, true, List, [], ◌++◌, length, codes}
 use Rattle.std.specs.Fmt.{decimal}
 use Rattle.element_store.specs.FileNames.{is_file_name}
 use Rattle.session_model.specs.Book.{Book, Edited, edited, put_in}

@@ -1,5 +1,5 @@
 -- The cut of an input into commands, and the stop at its end.
-use Rattle.std.specs.Prelude.{◌≡◌, ℕ, ◌+◌, ◌^◌, ◌<◌, ◌≤◌, Bool, true, List, [], ◌∷◌, ◌++◌, length, codes, ◌⊎◌}
+use Rattle.std.specs.Prelude.{◌≡◌, ℕ, ◌+◌, ◌^◌, ◌≤◌, Bool, true, false, List, [], ◌∷◌, ◌++◌, length, codes, ◌⊎◌}
 use Rattle.session_model.specs.Book.{Book}
 use Rattle.session_model.specs.Commands.{Command, spelling_of, book_after, IsAccepted}
 
@@ -30,3 +30,29 @@ abbrev pub EndsWithEnd : List Command → Type 0
 EndsWithEnd [] = ⊥
 EndsWithEnd (c ∷ []) = c ≡ Command.End
 EndsWithEnd (c ∷ d ∷ cs) = EndsWithEnd (d ∷ cs)
+
+-- whether it is
+abbrev pub is_end : Command → Bool
+is_end (Command.Put name text) = false
+is_end (Command.Links name) = false
+is_end Command.End = true
+
+abbrev pub ends_with_end : List Command → Bool
+ends_with_end [] = false
+ends_with_end (c ∷ []) = is_end c
+ends_with_end (c ∷ d ∷ cs) = ends_with_end (d ∷ cs)
+
+-- the spellings of commands, one after the other
+abbrev pub spellings_of : List Command → List ℕ
+spellings_of [] = []
+spellings_of (c ∷ cs) = spelling_of c ++ spellings_of cs
+
+-- the book that commands leave
+abbrev pub book_left : Book → List Command → Book
+book_left book [] = book
+book_left book (c ∷ cs) = book_left (book_after book c) cs
+
+-- none of the commands is `end`
+abbrev pub AreOpen : List Command → Type 0
+AreOpen [] = Unit {0}
+AreOpen (c ∷ cs) = (c ≡ Command.End → ⊥) × AreOpen cs

@@ -2,4 +2,5 @@ pub mod Answers
 pub mod Book
 pub mod Commands
 pub mod Cut
+pub mod Refusals
 pub mod Texts

@@ -1,5 +1,5 @@
 -- Places, labels and the texts of outcomes.
-use Rattle.std.specs.Prelude.{ℕ, ◌+◌, ◌-◌, zero, suc, Bool, cond, nat_eq, not, List, [], ◌∷◌, ◌++◌, length, take, map, reverse, count_by, codes, Option, Some, None, slice_get}
+use Rattle.std.specs.Prelude.{ℕ, ◌+◌, zero, suc, nat_eq, not, List, [], ◌∷◌, ◌++◌, length, take, reverse, count_by, codes, None, slice_get}
 use Rattle.std.specs.Fmt.{decimal}
 use Rattle.std.specs.List.{prefix_len}
 use Rattle.std.specs.Option.{option_map_or}
@@ -11,7 +11,7 @@ use Rattle.element_store.specs.declared.outcome.Outcome.{Outcome}
 use Rattle.element_store.specs.declared.outcome.Outcome.TheVariants.{Linked, Absent, Ambiguous, Hidden, Cyclic}
 use Rattle.element_store.specs.declared.outcome.Role.{Role}
 use Rattle.element_store.specs.declared.outcome.Role.TheVariants.{Subclass, Typing, Subsetting, Redefinition, ReferenceSubsetting, Import, Alias, About, Value, Bound}
-use Rattle.link_model.specs.Model.{Element, Member, Reference, Source, Files}
+use Rattle.link_model.specs.Model.{Element, Reference, Files}
 use Rattle.link_model.specs.Tiers.{elements_of, members_of, owner_in}
 
 -- the line of a place: 1, and the LF bytes before it
