@@ -199,3 +199,33 @@ pub fn read(alloc: Global, text: &[u8]) -> Result<Option<Package>, NoMemory>
     };
     read_package(alloc, text, tokens.as_slice())
 }
+
+#[cfg(test)]
+mod tests {
+    use super::read;
+
+    #[test]
+    fn texts_of_the_profile_are_read(rt: HostRuntime) {
+        let text = b"package P { part def A; part def B :> A; }";
+        match read(rt.alloc(), text) {
+            Ok(Some(package)) => {
+                assert!(rt; package.name.bytes() == b"P".as_slice());
+                assert!(rt; package.definitions.as_slice().len() == 2);
+                let general = &package.definitions.as_slice()[1].general;
+                assert!(rt; matches!(general, Some(written) if written.place == 38));
+            }
+            _ => assert!(rt; false),
+        }
+        for other in [
+            b"part def A;".as_slice(),
+            b"package part { }".as_slice(),
+            b"package P { part def A :>> B; }".as_slice(),
+            b"package P { } // note".as_slice(),
+            b"package P { } }".as_slice(),
+            b"package P { part def A".as_slice(),
+            b"".as_slice(),
+        ] {
+            assert!(rt; matches!(read(rt.alloc(), other), Ok(None)));
+        }
+    }
+}

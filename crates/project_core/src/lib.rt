@@ -12,6 +12,8 @@ mod place;
 mod project;
 mod queries;
 mod rows;
+#[cfg(test)]
+mod tests;
 
 pub use faults::{ApplyFault, FileFault, QueryFault};
 pub use place::Place;
