@@ -9,7 +9,7 @@ use Rattle.ll_core.specs.Table.{Rule, Table, table_of}
 use Rattle.ll_core.specs.Checked.{empty_of, first_of, follow_of, height_of, rank_of, AllEmpty, Begins, Predicts, FollowsClosed, AllLower, IsInRange, IsClosed, IsPredictive, IsProductive, IsRanked, IsChecked, IsCheckedGrammar}
 use Rattle.ll_core.specs.Test.{has, all_begin, is_numbered, is_numbered_rule, is_in_range, may_be_empty, follows_closed, is_closed_rule, is_closed, is_apart, is_apart_from, are_apart, is_predictive, is_lower, is_lowering, are_productive, is_productive, is_ranked_rule, is_ranked, is_checked}
 use Rattle.ll_core.proofs.Lists.{and_true, and_both, or_true, or_left, or_right, where_true, true_where, all_places, places_all}
-use Rattle.ll_core.proofs.Tests.{member-from_has, has-from_member, all_begin-passes, passes-all_begin, numbered-from_test, test-from_numbered, empty-from_test, test-from_empty, follows-from_test, test-from_follows, apart-from_test, test-from_apart, lower-from_test, test-from_lower, ranked-from_test, test-from_ranked}
+use Rattle.ll_core.proofs.TestFacts.{member-from_has, has-from_member, all_begin-passes, passes-all_begin, numbered-from_test, test-from_numbered, empty-from_test, test-from_empty, follows-from_test, test-from_follows, apart-from_test, test-from_apart, lower-from_test, test-from_lower, ranked-from_test, test-from_ranked}
 
 -- the first condition
 in_range-from_test : (t : Table) → is_in_range t ≡ true → IsInRange t

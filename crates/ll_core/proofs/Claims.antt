@@ -10,7 +10,7 @@ use Rattle.ll_core.specs.Table.{Rule, Table}
 use Rattle.ll_core.specs.Derives.{Forest, Nothing, Token, Node, IsDerivation, tokens, preorder}
 use Rattle.linker_base.specs.Members.{IsMember}
 use Rattle.ll_core.specs.Checked.{empty_of, first_of, follow_of, AllEmpty, Begins, Predicts, FollowsClosed, IsChecked}
-use Rattle.ll_core.proofs.Tests.{begins-mono}
+use Rattle.ll_core.proofs.TestFacts.{begins-mono}
 use Rattle.ll_core.specs.Stack.{tasks, Rest, Done, Next, Below, Up, Completes, tokens_left, events_left, MayCome, IsFollowed, next_of}
 
 none_left : (xs ys : List ℕ) → xs ++ ys ≡ [] → xs ≡ []

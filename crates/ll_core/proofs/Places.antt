@@ -1,5 +1,5 @@
 -- The place at which a token list stops beginning any derived list.
-use Rattle.std.proofs.Common.{◌≡◌, ℕ, zero, suc, ◌<◌, ◌≤◌, List, [], ◌∷◌, ◌++◌, length, take, drop, get_or, refl, sym, ap, subst, arith}
+use Rattle.std.proofs.Common.{◌≡◌, ℕ, zero, suc, ◌<◌, ◌≤◌, List, [], ◌∷◌, length, take, drop, get_or, refl, sym, ap, subst, arith}
 use Rattle.std.proofs.lemmas.List.{append-nil, drop_more, take-append-drop, length-take-le}
 use Rattle.std.specs.Prelude.{None, Some}
 use Rattle.ll_core.specs.Table.{Table}
