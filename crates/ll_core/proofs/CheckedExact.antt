@@ -4,9 +4,8 @@ use Rattle.std.proofs.lemmas.Bool.{eqb-true, ltb-true, lt-ltb, leb-true, le-leb}
 use Rattle.std.specs.Prelude.{Some, slice_get, ◌==◌, ◌||◌, not, nat_lt, nat_le, IsTrue, ◌↔◌}
 use Rattle.std.specs.List.{list_all, list_any}
 use Rattle.linker_base.specs.Members.{IsMember}
-use Rattle.ll_core.specs.declared.grammar.Grammar.{Grammar}
-use Rattle.ll_core.specs.Table.{Rule, Table, table_of}
-use Rattle.ll_core.specs.Checked.{empty_of, first_of, follow_of, height_of, rank_of, AllEmpty, Begins, Predicts, FollowsClosed, AllLower, IsInRange, IsClosed, IsPredictive, IsProductive, IsRanked, IsChecked, IsCheckedGrammar}
+use Rattle.ll_core.specs.Table.{Rule, Table}
+use Rattle.ll_core.specs.Checked.{empty_of, first_of, follow_of, height_of, rank_of, AllEmpty, Begins, Predicts, FollowsClosed, AllLower, IsInRange, IsClosed, IsPredictive, IsProductive, IsRanked, IsChecked}
 use Rattle.ll_core.specs.Test.{has, all_begin, is_numbered, is_numbered_rule, is_in_range, may_be_empty, follows_closed, is_closed_rule, is_closed, is_apart, is_apart_from, are_apart, is_predictive, is_lower, is_lowering, are_productive, is_productive, is_ranked_rule, is_ranked, is_checked}
 use Rattle.ll_core.proofs.Lists.{and_true, and_both, or_true, or_left, or_right, where_true, true_where, all_places, places_all}
 use Rattle.ll_core.proofs.TestFacts.{member-from_has, has-from_member, all_begin-passes, passes-all_begin, numbered-from_test, test-from_numbered, empty-from_test, test-from_empty, follows-from_test, test-from_follows, apart-from_test, test-from_apart, lower-from_test, test-from_lower, ranked-from_test, test-from_ranked}
@@ -190,7 +189,7 @@ ranked_all-from_test t e = all_places (is_ranked_rule t) _ (λ r h. ranked-from_
 test-from_ranked_all : (t : Table) → IsRanked t → is_ranked t ≡ true
 test-from_ranked_all t h = places_all (is_ranked_rule t) t.rules (λ p r g. test-from_ranked t (rank_of t r.left) r.right (h p r g))
 
--- a table that passes the test is checked
+-- a table that passes the test is checked; a fixed table is shown checked by `checked_from_test _ refl`
 pub checked_from_test : (t : Table) → is_checked t ≡ true → IsChecked t
 checked_from_test t e0 =
     let e1 = and_true (is_in_range t) _ e0 in
@@ -217,7 +216,3 @@ test_from_checked t h =
 pub checked_exact : (t : Table) (b : Bool) → b ≡ is_checked t → IsTrue b ↔ IsChecked t
 checked_exact t true e = (λ h. checked_from_test t (sym e), λ h. refl)
 checked_exact t false e = (λ h. let f : false ≡ true = h in absurd (cc), λ h. let f : false ≡ true = e ∙ test_from_checked t h in cc)
-
--- a fixed grammar is shown checked by this lemma and `refl`
-pub grammar_from_test : (g : Grammar) → is_checked (table_of g) ≡ true → IsCheckedGrammar g
-grammar_from_test g e = checked_from_test (table_of g) e

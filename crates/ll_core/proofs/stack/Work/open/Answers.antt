@@ -1,4 +1,4 @@
-use Rattle.std.proofs.Common.{◌≡◌, ◌<◌, ℕ, refl, subst, sym, ap, ◌∙◌, ◌∷◌, ◌++◌, []}
+use Rattle.std.proofs.Common.{List, ◌≡◌, ◌<◌, ℕ, refl, subst, sym, ap, ◌∙◌, ◌∷◌, ◌++◌, []}
 use Rattle.std.specs.Prelude.{reverse, Option, Some, None, unwrap_or}
 use Rattle.ll_core.specs.Checked.{Predicts}
 use Rattle.ll_core.specs.Stack.{IsAt}
@@ -19,7 +19,7 @@ returns-in_default c =
     let t = c.args.predictor.now in
     let e : c.unwrap_or-code.result ≡ look_code c.args.look = c.unwrap_or-code.ensures ∙ code_is c.args.look in (
       refl,
-      refl,
+      refl {A = List ℕ},
       none_goes_on_expand t c.requires.checked c.args.self.now.events.items c.args.self.now.shifted.items (reverse c.args.self.now.stack.items) c.args.symbol c.args.look
           (λ p r is left h. c.in_default.ensures.none p r is left (subst (λ k. Predicts t r k) (sym e) h)) c.requires.at,
     )
@@ -42,7 +42,7 @@ returns-in-Ok-push_right c =
     let stack_is : reverse c.push_right.new.stack.items ≡ tasks rule.0.right (Close ∷ s) = stack ∙ ap (λ r. tasks r (Close ∷ s)) right in
     let falls = subst (λ a. effort t (tasks rule.0.right (Close ∷ s)) < effort t (Expand a ∷ s)) rule.2 (open_falls t c.requires.checked c.in-Some.number rule.0 s rule.1) in (
       c.in-Ok.ensures.items,
-      refl,
+      refl {A = List ℕ},
       subst (λ xs. IsAt t xs c.args.self.now.shifted.items (Some c.args.look) (reverse c.push_right.new.stack.items)) (sym c.in-Ok.ensures.items)
           (subst (λ st. IsAt t (c.args.self.now.events.items ++ Open c.in-Some.number ∷ []) c.args.self.now.shifted.items (Some c.args.look) st) (sym stack_is) next),
       subst (λ st. effort t st < effort t (Expand c.args.symbol ∷ s)) (sym stack_is) falls,
