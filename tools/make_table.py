@@ -3,6 +3,7 @@
 
   make_table.py kerml|sysml            prints the table as a Rattle module
   make_table.py kerml|sysml --numbers  prints the productions with their numbers and names
+  make_table.py --terminals            prints the numbers of the terminals of both languages
   make_table.py --report               prints counts and conflicts of both grammars; exit 1 where there is one
 
 The grammars stand in grammars/: common.grammar, and the file of the language. In them NAME, INT, STRING
@@ -371,9 +372,14 @@ def main():
     words.add_argument('language', nargs='?', choices=LANGUAGES)
     words.add_argument('--report', action='store_true')
     words.add_argument('--numbers', action='store_true')
+    words.add_argument('--terminals', action='store_true')
     given = words.parse_args()
     if given.report:
         sys.exit(report())
+    if given.terminals:
+        for i, terminal in enumerate(terminals()):
+            print(i, terminal)
+        return
     if not given.language:
         words.error('name a language, or give --report')
     if given.numbers:

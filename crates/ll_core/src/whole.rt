@@ -1,7 +1,7 @@
 ghost use Rattle.std.specs.Prelude.{◌≡◌, ◌∷◌, ◌++◌, [], ℕ, List, None, Some, Err, OnOk, IfOk};
 ghost use Rattle.ll_core.specs.Checked.{IsCheckedGrammar};
 ghost use Rattle.ll_core.specs.Derives.{Forest, IsTree, preorder, StopsAt, IsSyntaxPlace};
-ghost use Rattle.ll_core.specs.Table.{table_of};
+ghost use Rattle.ll_core.specs.Table.{Table, table_of};
 
 use crate::{Event, Grammar, ParseFault, Parser};
 use std::alloc::Global;
@@ -77,3 +77,9 @@ pub fn parse(alloc: Global, grammar: Grammar, tokens: &[u16]) -> Result<Vec<Even
         Err(ParseFault::NoMemory) => Err(Refusal::NoMemory),
     }
 }
+
+/// A token list stops beginning any derived list at one place, and a derived one at none.
+pub fn one_place()
+    ensures one { (t : Table) (ks : List ℕ) (m n : ℕ) → IsSyntaxPlace t ks m → IsSyntaxPlace t ks n → m ≡ n }
+    ensures none { (t : Table) (ks : List ℕ) (n : ℕ) (f : Forest) → IsTree t ks f → IsSyntaxPlace t ks n → ⊥ }
+{}
