@@ -1,0 +1,11 @@
+use Rattle.std.proofs.Common.{◌≡◌, sym, subst}
+use Rattle.token_core.specs.Words.{words, place_in}
+use Rattle.token_core.proofs.words.word_number.Goals as goal
+
+pub returns-in-Kerml : goal.returns-in-Kerml
+unfolding words
+returns-in-Kerml c = subst (λ l. c.number_in.result ≡ place_in (words l) c.args.bytes.now) (sym c.in-Kerml.is) c.number_in.ensures
+
+pub returns-in-Sysml : goal.returns-in-Sysml
+unfolding words
+returns-in-Sysml c = subst (λ l. c.number_in-in-Sysml.result ≡ place_in (words l) c.args.bytes.now) (sym c.in-Sysml.is) c.number_in-in-Sysml.ensures
