@@ -5,3 +5,7 @@ pub mod Found
 pub mod Right
 pub mod Cuts
 pub mod OneLexing
+pub mod Numbers
+pub mod Characters
+pub mod Spellings
+pub mod Meanings

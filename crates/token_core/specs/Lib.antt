@@ -5,3 +5,6 @@ pub mod Lex
 pub mod Scan
 pub mod Run
 pub mod Laws
+pub mod Reading
+pub mod Spelling
+pub mod Terminals

@@ -6,9 +6,15 @@
 
 mod lexer;
 mod pieces;
+mod reading;
 mod scan;
+mod spelling;
+mod terminal;
 mod token;
 mod words;
 
 pub use lexer::{lex, one_lexing};
+pub use reading::{integer_of, name_of, string_of};
+pub use spelling::{spell_name, spell_string};
+pub use terminal::terminal_of;
 pub use token::{LexFault, Token, TokenKind, Tokens};
