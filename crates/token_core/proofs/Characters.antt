@@ -1,14 +1,13 @@
 -- Escapes leave a text UTF-8: each is of ASCII bytes, and the bytes of other characters are passed over.
-use Rattle.std.proofs.Common.{◌≡◌, ℕ, zero, suc, ◌+◌, ◌-◌, ◌<◌, ◌≤◌, Bool, true, false, List, [], ◌∷◌, ◌++◌, length, take, drop, get_or, refl, sym, ap, subst, ◌∙◌, inl, inr, arith, ◌⊎◌, append_assoc, append-nil}
-use Rattle.std.specs.Prelude.{cond, Option, Some, None, ◌&&◌, ◌||◌, ◌==◌, nat_le, not, IsUtf8}
-use Rattle.std.proofs.lemmas.Bool.{and_parts, cases_lt, eqb-true, eq-eqb}
+use Rattle.std.proofs.Common.{◌≡◌, ℕ, suc, ◌+◌, ◌<◌, ◌≤◌, Bool, true, false, List, [], ◌∷◌, ◌++◌, length, take, get_or, refl, sym, ap, subst, ◌∙◌, inl, inr, arith, append_assoc, append-nil}
+use Rattle.std.specs.Prelude.{Option, Some, None, ◌==◌, IsUtf8}
+use Rattle.std.proofs.lemmas.Bool.{and_parts, cases_lt, eq-eqb}
 use Rattle.std.proofs.lemmas.Bool.Decides.{nat_tests}
-use Rattle.std.proofs.lemmas.Str.{IsUtf8-append, IsUtf8-nil, IsUtf8-encode, encode_ascii, inside_one, length-encode, len_utf8_bounds, IsUtf8-take, IsUtf8-drop, IsCharBoundary-after_ascii}
+use Rattle.std.proofs.lemmas.Str.{IsUtf8-append, IsUtf8-nil, IsUtf8-encode, encode_ascii, inside_one, length-encode, len_utf8_bounds, IsUtf8-take, IsCharBoundary-after_ascii}
 use lib.Utf8.{scalar, scalars, encode, encodes, low_scalar}
-use Rattle.linker_base.proofs.Cases.{bool_cases}
-use Rattle.token_core.specs.Bytes.{IsRun, is_word, is_letter, is_digit, is_plain, is_escape, escape_meaning}
+use Rattle.token_core.specs.Bytes.{IsRun, is_word, is_plain, is_escape, escape_meaning}
 use Rattle.token_core.specs.Pieces.{IsUpToQuote}
-use Rattle.token_core.specs.Reading.{decoded, is_spellable}
+use Rattle.token_core.specs.Reading.{decoded}
 use Rattle.token_core.specs.Spelling.{spelt, quoted, written, escape_letter}
 use Rattle.std.proofs.lemmas.List.{length-append}
 use Rattle.std.proofs.Math.Seq.{get_or-append_seam, take-append-add}
@@ -59,6 +58,7 @@ escape_low : (b : ℕ) → is_escape b ≡ true → (b < 128) × (escape_meaning
 escape_low b e = (low b e, meaning b e) where
   low : (b : ℕ) → is_escape b ≡ true → b < 128
   low b e = grind (arith, nat_tests)
+
   meaning : (b : ℕ) → is_escape b ≡ true → escape_meaning b < 128
   meaning b e = grind (arith, nat_tests)
 
@@ -75,31 +75,33 @@ decoded_chars : (q : ℕ) (escaped : Bool) (cs : List ℕ) → q < 128 → (q �
 decoded_chars q escaped [] small apart e i = absurd i
 decoded_chars q true (c ∷ cs) small apart e i = elim (cases_lt c 128) [
   | inl low ↦
-    let p = and_parts (scalar c) (scalars cs) e in
-    let one : encode c ≡ c ∷ [] = encode_ascii c low in
-    let j : IsUpToQuote q true ((c ∷ []) ++ encodes cs) = subst (λ x. IsUpToQuote q true (x ++ encodes cs)) one i in
-    subst (λ x. IsUtf8 (decoded q true (x ++ encodes cs))) (sym one) (ascii_then (escape_meaning c) (decoded q false (encodes cs)) (escape_low c j.0).1 (decoded_chars q false cs small apart p.1 j.1))
+      let p = and_parts (scalar c) (scalars cs) e in
+      let one : encode c ≡ c ∷ [] = encode_ascii c low in
+      let j : IsUpToQuote q true ((c ∷ []) ++ encodes cs) = subst (λ x. IsUpToQuote q true (x ++ encodes cs)) one i in
+      subst (λ x. IsUtf8 (decoded q true (x ++ encodes cs))) (sym one) (ascii_then (escape_meaning c) (decoded q false (encodes cs)) (escape_low c j.0).1 (decoded_chars q false cs small apart p.1 j.1))
   | inr high ↦ absurd (escape_high q (encode c) (encodes cs) (some_bytes c) (high_char c high) i)
 ]
 decoded_chars q false (c ∷ cs) small apart e i = elim (cases_lt c 128) [
   | inl low ↦
-    let p = and_parts (scalar c) (scalars cs) e in
-    let one : encode c ≡ c ∷ [] = encode_ascii c low in
-    let j : IsUpToQuote q false ((c ∷ []) ++ encodes cs) = subst (λ x. IsUpToQuote q false (x ++ encodes cs)) one i in
-    subst (λ x. IsUtf8 (decoded q false (x ++ encodes cs))) (sym one) (
+      let p = and_parts (scalar c) (scalars cs) e in
+      let one : encode c ≡ c ∷ [] = encode_ascii c low in
+      let j : IsUpToQuote q false ((c ∷ []) ++ encodes cs) = subst (λ x. IsUpToQuote q false (x ++ encodes cs)) one i in
+      subst (λ x. IsUtf8 (decoded q false (x ++ encodes cs))) (sym one) (
       ascii_decoded c low (λ k. decoded_chars q true cs small apart p.1 k) (λ k. decoded_chars q false cs small apart p.1 k) j)
   | inr high ↦
-    let p = and_parts (scalar c) (scalars cs) e in
-    let h : AreHigh (encode c) = high_char c high in
-    subst IsUtf8 (sym (decoded_high q (encode c) (encodes cs) small h)) (
+      let p = and_parts (scalar c) (scalars cs) e in
+      let h : AreHigh (encode c) = high_char c high in
+      subst IsUtf8 (sym (decoded_high q (encode c) (encodes cs) small h)) (
       IsUtf8-append (encode c) (decoded q false (encodes cs)) (IsUtf8-encode c p.0) (decoded_chars q false cs small apart p.1 (quote_high q (encode c) (encodes cs) small h i)))
 ] where
   plain_apart : (c : ℕ) → is_plain q c ≡ true → ((c == q) ≡ false) × ((c == 92) ≡ false)
   plain_apart c e = (first c e, second c e) where
     first : (c : ℕ) → is_plain q c ≡ true → (c == q) ≡ false
     first c e = grind (arith, nat_tests)
+
     second : (c : ℕ) → is_plain q c ≡ true → (c == 92) ≡ false
     second c e = grind (arith, nat_tests)
+
   ascii_decoded : (c : ℕ) → c < 128 → (IsUpToQuote q true (encodes cs) → IsUtf8 (decoded q true (encodes cs))) → (IsUpToQuote q false (encodes cs) → IsUtf8 (decoded q false (encodes cs))) → IsUpToQuote q false (c ∷ encodes cs) → IsUtf8 (decoded q false (c ∷ encodes cs))
   ascii_decoded c low after plain (inl j) = rw (eq-eqb c q j.0) IsUtf8-nil
   ascii_decoded c low after plain (inr (inl j)) =
@@ -132,6 +134,7 @@ written_ascii : (q : ℕ) (b : ℕ) (rest : List ℕ) → q < 128 → b < 128 �
 written_ascii q b rest small low u = go (escape_letter q b) refl where
   letter_low : (letter : ℕ) → escape_letter q b ≡ Some letter → letter < 128
   letter_low letter e = grind (arith, nat_tests)
+
   go : (o : Option ℕ) → escape_letter q b ≡ o → IsUtf8 (written b o ++ rest)
   go None e = ascii_then b rest low u
   go (Some letter) e = ascii_then 92 (letter ∷ rest) (omega arith) (ascii_then letter rest (letter_low letter e) u)
@@ -140,11 +143,11 @@ spelt_chars : (q : ℕ) (cs : List ℕ) → q < 128 → scalars cs ≡ true → 
 spelt_chars q [] small e = ascii_then q [] small IsUtf8-nil
 spelt_chars q (c ∷ cs) small e = elim (cases_lt c 128) [
   | inl low ↦
-    let p = and_parts (scalar c) (scalars cs) e in
-    subst (λ x. IsUtf8 (spelt q (x ++ encodes cs))) (sym (encode_ascii c low)) (written_ascii q c (spelt q (encodes cs)) small low (spelt_chars q cs small p.1))
+      let p = and_parts (scalar c) (scalars cs) e in
+      subst (λ x. IsUtf8 (spelt q (x ++ encodes cs))) (sym (encode_ascii c low)) (written_ascii q c (spelt q (encodes cs)) small low (spelt_chars q cs small p.1))
   | inr high ↦
-    let p = and_parts (scalar c) (scalars cs) e in
-    subst IsUtf8 (sym (spelt_high q (encode c) (encodes cs) small (high_char c high))) (
+      let p = and_parts (scalar c) (scalars cs) e in
+      subst IsUtf8 (sym (spelt_high q (encode c) (encodes cs) small (high_char c high))) (
       IsUtf8-append (encode c) (spelt q (encodes cs)) (IsUtf8-encode c p.0) (spelt_chars q cs small p.1))
 ]
 

@@ -1,18 +1,17 @@
 -- Cutting a text into the longest pieces: one more piece, and that there is one way.
-use Rattle.std.proofs.Common.{◌≡◌, ◌≢◌, ℕ, zero, suc, ◌+◌, ◌-◌, ◌<◌, ◌≤◌, Bool, true, false, List, [], ◌∷◌, ◌++◌, length, take, drop, refl, sym, ap, subst, ◌∙◌, inl, inr, arith, ◌⊎◌, append_assoc, append-nil, length-drop, add_assoc}
-use Rattle.std.specs.Prelude.{Option, Some, None, MatchOption}
+use Rattle.std.proofs.Common.{◌≡◌, ℕ, ◌+◌, ◌-◌, ◌<◌, ◌≤◌, List, [], ◌∷◌, ◌++◌, length, take, drop, refl, sym, ap, subst, ◌∙◌, inl, inr, arith, append_assoc, append-nil, length-drop, add_assoc}
+use Rattle.std.specs.Prelude.{Some, None}
 use Rattle.std.proofs.lemmas.List.{take-append-drop, length-take-le, length-append, drop_all, drop-drop}
 use Rattle.std.proofs.Math.Seq.{take-append_seam, drop-append_seam, take-length}
 use Rattle.linker_base.proofs.Cases.{option_cases}
 use Rattle.element_store.specs.declared.outcome.Language.{Language}
 use Rattle.token_core.specs.declared.token.PieceKind.{PieceKind}
 use Rattle.token_core.specs.declared.token.Token.{Token}
-use Rattle.token_core.specs.declared.token.Found.{Found}
-use Rattle.token_core.specs.Pieces.{IsPiece, IsLongest, NoPiece}
+use Rattle.token_core.specs.declared.pieces.Found.{Found}
+use Rattle.token_core.specs.Pieces.{IsLongest, NoPiece}
 use Rattle.token_core.specs.Lex.{Piece, Cut, Lex, IsTokenPlace, size_of, token_at, tokens_from}
-use Rattle.token_core.specs.Run.{IsCutTo}
 use Rattle.token_core.specs.Scan.{found, found_of}
-use Rattle.token_core.proofs.Found.{Covers, covers, covered, no_piece}
+use Rattle.token_core.proofs.Found.{covered, no_piece}
 use Rattle.token_core.proofs.Right.{Right, RightIf, found_right}
 
 -- the piece found, where one is
@@ -26,8 +25,8 @@ found_longest language text f e =
     record {
       piece = r.piece;
       longest = λ k bs rest same i.
-        let c = covered language text f k bs rest e (same ∙ take-append-drop f.length text) i in
-        subst (λ n. length bs ≤ n) (sym (length-take-le f.length text r.within)) c.0;
+          let c = covered language text f k bs rest e (same ∙ take-append-drop f.length text) i in
+          subst (λ n. length bs ≤ n) (sym (length-take-le f.length text r.within)) c.0;
     }
 
 -- the longest piece is the one found
@@ -35,14 +34,14 @@ pub longest_found : (language : Language) (kind : PieceKind) (bytes more : List 
 longest_found language kind bytes more h = elim (option_cases (found language (bytes ++ more))) [
   | inl none ↦ absurd (no_piece language (bytes ++ more) none kind bytes more refl h.piece)
   | inr some ↦
-    let text : List ℕ = bytes ++ more in
-    let f : Found = some.0 in
-    let r = right_piece language text f some.1 in
-    let c = covered language text f kind bytes more some.1 refl h.piece in
-    let l : length (take f.length text) ≤ length bytes = h.longest f.kind (take f.length text) (drop f.length text) (take-append-drop f.length text) r.piece in
-    let m : length (take f.length text) ≡ f.length = length-take-le f.length text r.within in
-    let size : length bytes ≡ f.length = omega (arith, c.0, l, m) in
-    some.1 ∙ ap Some (same_found f kind (length bytes) (c.1 size) (sym size))
+      let text : List ℕ = bytes ++ more in
+      let f : Found = some.0 in
+      let r = right_piece language text f some.1 in
+      let c = covered language text f kind bytes more some.1 refl h.piece in
+      let l : length (take f.length text) ≤ length bytes = h.longest f.kind (take f.length text) (drop f.length text) (take-append-drop f.length text) r.piece in
+      let m : length (take f.length text) ≡ f.length = length-take-le f.length text r.within in
+      let size : length bytes ≡ f.length = omega (arith, c.0, l, m) in
+      some.1 ∙ ap Some (same_found f kind (length bytes) (c.1 size) (sym size))
 ] where
   same_found : (f : Found) (kind : PieceKind) (size : ℕ) → f.kind ≡ kind → f.length ≡ size → f ≡ found_of kind size
   same_found f kind size e g = ap (λ k. found_of k f.length) e ∙ ap (found_of kind) g
@@ -82,8 +81,8 @@ pub none_found : (language : Language) (text : List ℕ) → NoPiece language te
 none_found language text empty = elim (option_cases (found language text)) [
   | inl none ↦ none
   | inr some ↦
-    let r = right_piece language text some.0 some.1 in
-    absurd (empty some.0.kind (take some.0.length text) (drop some.0.length text) (take-append-drop some.0.length text) r.piece)
+      let r = right_piece language text some.0 some.1 in
+      absurd (empty some.0.kind (take some.0.length text) (drop some.0.length text) (take-append-drop some.0.length text) r.piece)
 ]
 
 -- one more piece at the end of a cut
@@ -107,6 +106,13 @@ pub cut_size : (language : Language) (ps : List Piece) (text rest : List ℕ) �
 cut_size language [] text rest h = omega (arith, ap length h)
 cut_size language (p ∷ ps) text rest h = omega (arith, ap length h.1, length-append p.bytes h.0, cut_size language ps h.0 rest h.3)
 
+-- the text is cut into whole pieces up to a place, and these are their tokens
+pub record IsCutTo (language : Language) (text : List ℕ) (at : ℕ) (tokens : List Token) : Type 0 where
+  pub pieces : List Piece
+  pub cut : Cut language pieces text (drop at text)
+  pub place : at ≡ size_of pieces
+  pub kept : tokens ≡ tokens_from 0 pieces
+
 -- the cut so far, and one more piece
 pub run_more : (language : Language) (text : List ℕ) (at : ℕ) (tokens : List Token) (f : Found) → IsCutTo language text at tokens → found language (drop at text) ≡ Some f → IsCutTo language text (at + f.length) (tokens ++ token_at f.kind at f.length)
 run_more language text at tokens f run e =
@@ -118,12 +124,12 @@ run_more language text at tokens f run e =
     record {
       pieces = run.pieces ++ p ∷ [];
       cut = subst (Cut language (run.pieces ++ p ∷ []) text) (drop-drop f.length at text) (
-        cut_more language run.pieces text rest p (drop f.length rest) run.cut (sym (take-append-drop f.length rest)) (found_longest language rest f e));
+          cut_more language run.pieces text rest p (drop f.length rest) run.cut (sym (take-append-drop f.length rest)) (found_longest language rest f e));
       place = omega (arith, size_more run.pieces p, size, place);
       kept =
-        ap (λ ts. ts ++ token_at f.kind at f.length) run.kept
-        ∙ (ap (λ n. tokens_from 0 run.pieces ++ token_at f.kind n f.length) (omega (arith, place))
-        ∙ (ap (λ n. tokens_from 0 run.pieces ++ token_at f.kind (0 + size_of run.pieces) n) (sym size) ∙ sym (tokens_more 0 run.pieces p)));
+          ap (λ ts. ts ++ token_at f.kind at f.length) run.kept
+          ∙ (ap (λ n. tokens_from 0 run.pieces ++ token_at f.kind n f.length) (omega (arith, place))
+          ∙ (ap (λ n. tokens_from 0 run.pieces ++ token_at f.kind (0 + size_of run.pieces) n) (sym size) ∙ sym (tokens_more 0 run.pieces p)));
     }
 
 -- a cut to the end is the lexing

@@ -1,24 +1,22 @@
 -- Every piece that begins a text is one that the lexer finds, or a shorter one.
-use Rattle.std.proofs.Common.{◌≡◌, ◌≢◌, ℕ, zero, suc, ◌+◌, ◌<◌, ◌≤◌, Bool, true, false, List, [], ◌∷◌, ◌++◌, length, take, drop, refl, sym, ap, subst, ◌∙◌, inl, inr, arith, ◌⊎◌}
-use Rattle.std.specs.Prelude.{cond, Option, Some, None, option_map, ◌&&◌, ◌||◌, ◌==◌, nat_le, not, MatchOption}
-use Rattle.std.specs.List.{prefix_len}
-use Rattle.std.proofs.lemmas.Bool.{eqb-true, leb-true, eq-eqb, le-leb}
+use Rattle.std.proofs.Common.{◌≡◌, ℕ, suc, ◌<◌, ◌≤◌, Bool, true, false, List, [], ◌∷◌, ◌++◌, length, take, refl, sym, ap, subst, ◌∙◌, inl, inr, arith}
+use Rattle.std.specs.Prelude.{Option, Some, None, option_map, ◌||◌, ◌==◌, nat_le, MatchOption}
+use Rattle.std.proofs.lemmas.Bool.{eqb-true, le-leb}
 use Rattle.std.proofs.lemmas.Bool.Decides.{nat_tests}
-use Rattle.std.proofs.Math.Numerals.{one-add}
-use Rattle.std.proofs.Math.Seq.{take-append_seam, drop-append_seam}
+use Rattle.std.proofs.Math.Seq.{take-append_seam}
 use Rattle.std.proofs.lemmas.List.{length-append}
-use Rattle.linker_base.proofs.Cases.{bool_cases, option_cases}
+use Rattle.linker_base.proofs.Cases.{bool_cases}
 use Rattle.element_store.specs.declared.outcome.Language.{Language}
 use Rattle.token_core.specs.declared.token.TokenKind.TheVariants.{Name, Integer, Quote, Comment, Sign, Word}
 use Rattle.token_core.specs.declared.token.PieceKind.{PieceKind}
 use Rattle.token_core.specs.declared.token.PieceKind.TheVariants.{Space, LineNote, BlockNote, Token}
-use Rattle.token_core.specs.declared.token.Found.{Found}
-use Rattle.token_core.specs.declared.token.ByteClass.{ByteClass}
-use Rattle.token_core.specs.declared.token.ByteClass.TheVariants.{Blank, Letter, Digit, NameQuote, TextQuote, Slash, Other}
+use Rattle.token_core.specs.declared.pieces.Found.{Found}
+use Rattle.token_core.specs.declared.pieces.ByteClass.{ByteClass}
+use Rattle.token_core.specs.declared.pieces.ByteClass.TheVariants.{Blank, Letter, Digit, NameQuote, TextQuote, Slash, Other}
 use Rattle.token_core.specs.Bytes.{IsRun, BeginsOther, is_space, is_letter, is_digit, is_word, is_in_line}
 use Rattle.token_core.specs.Words.{signs, words, place_in}
-use Rattle.token_core.specs.Pieces.{IsPiece, NoPiece, IsSome, IsBasicName, IsUpToClose, IsUpToQuote, IsQuoted, MayFollowSign}
-use Rattle.token_core.specs.Scan.{class_of, found, found_by, found_of, begins, close_end, quote_end, kind_of_number, word_kind, word_at, sign_of, sign_at, first_of_two, quoted_at, note_at, slash_at}
+use Rattle.token_core.specs.Pieces.{IsPiece, NoPiece, IsSomeRun, IsBasicName, IsUpToClose, IsUpToQuote, IsQuoted, MayFollowSign}
+use Rattle.token_core.specs.Scan.{class_of, found, found_of, kind_of_number, word_kind, sign_of, sign_at, first_of_two, quoted_at, note_at, slash_at}
 use Rattle.token_core.proofs.Runs.{run_le, begins_other, close_at, quote_at}
 use Rattle.token_core.proofs.Signs.{sign_form, is_sign_form, is_other}
 
@@ -46,13 +44,14 @@ digit_class b e =
   where
     not_space : (b : ℕ) → is_digit b ≡ true → is_space b ≡ false
     not_space b e = grind (arith, nat_tests)
+
     not_letter : (b : ℕ) → is_digit b ≡ true → is_letter b ≡ false
     not_letter b e = grind (arith, nat_tests)
 
-covers_space : (language : Language) (b : ℕ) (bs rest : List ℕ) → IsSome is_space (b ∷ bs) → Covers Space (length (b ∷ bs)) (found language ((b ∷ bs) ++ rest))
+covers_space : (language : Language) (b : ℕ) (bs rest : List ℕ) → IsSomeRun is_space (b ∷ bs) → Covers Space (length (b ∷ bs)) (found language ((b ∷ bs) ++ rest))
 covers_space language b bs rest i = rw (blank_class b i.0) (run_le is_space (b ∷ bs) rest i, λ _. refl)
 
-covers_integer : (language : Language) (b : ℕ) (bs rest : List ℕ) → IsSome is_digit (b ∷ bs) → Covers (Token Integer) (length (b ∷ bs)) (found language ((b ∷ bs) ++ rest))
+covers_integer : (language : Language) (b : ℕ) (bs rest : List ℕ) → IsSomeRun is_digit (b ∷ bs) → Covers (Token Integer) (length (b ∷ bs)) (found language ((b ∷ bs) ++ rest))
 covers_integer language b bs rest i = rw (digit_class b i.0) (run_le is_digit (b ∷ bs) rest i, λ _. refl)
 
 -- a letter is one of the bytes of a word
@@ -65,7 +64,7 @@ covers_word language number b bs rest i e =
     rw (letter_class b i.0) (
       run_le is_word (b ∷ bs) rest r,
       λ h. subst (λ n. word_kind language (take n ((b ∷ bs) ++ rest)) ≡ kind_of_number number) h (
-        subst (λ w. word_kind language w ≡ kind_of_number number) (sym (take-append_seam (b ∷ bs) rest)) (ap kind_of_number e)),
+          subst (λ w. word_kind language w ≡ kind_of_number number) (sym (take-append_seam (b ∷ bs) rest)) (ap kind_of_number e)),
     )
 
 covers_quoted : (kind : PieceKind) (q : ℕ) (bs rest : List ℕ) → (q ≡ 92 → ⊥) → IsUpToQuote q false bs → Covers kind (suc (length bs)) (quoted_at kind q (q ∷ (bs ++ rest)))
@@ -115,7 +114,7 @@ covers_sign : (n : ℕ) (bs rest : List ℕ) → place_in signs bs ≡ Some n �
 covers_sign n [] rest e f = absurd (cc)
 covers_sign n (a ∷ []) rest e f =
     covers_longer (Token (Sign n)) 1 3 _ _ (omega arith) (sign_length 3 (a ∷ rest)) (
-      covers_longer (Token (Sign n)) 1 2 _ _ (omega arith) (sign_length 2 (a ∷ rest)) (rw (sign_here n (a ∷ []) rest e) (omega arith, λ _. refl)))
+    covers_longer (Token (Sign n)) 1 2 _ _ (omega arith) (sign_length 2 (a ∷ rest)) (rw (sign_here n (a ∷ []) rest e) (omega arith, λ _. refl)))
 covers_sign n (a ∷ b ∷ []) rest e f =
     covers_longer (Token (Sign n)) 2 3 _ _ (omega arith) (sign_length 3 (a ∷ b ∷ rest)) (rw (sign_here n (a ∷ b ∷ []) rest e) (omega arith, λ _. refl))
 covers_sign n (a ∷ b ∷ c ∷ []) rest e f = rw (sign_here n (a ∷ b ∷ c ∷ []) rest e) (omega arith, λ _. refl)
@@ -146,9 +145,9 @@ other_first b c (d ∷ e ∷ bs) h = absurd (cc)
 covers_sign_form : (language : Language) (n : ℕ) (b : ℕ) (bs rest : List ℕ) → place_in signs (b ∷ bs) ≡ Some n → MayFollowSign (b ∷ bs) rest → is_sign_form (b ∷ bs) ≡ true → Covers (Token (Sign n)) (length (b ∷ bs)) (found language ((b ∷ bs) ++ rest))
 covers_sign_form language n b [] rest e m f = elim (bool_cases (b == 47)) [
   | inl hit ↦
-    let same : b ≡ 47 = eqb-true b 47 hit in
-    let k = m (ap (λ x. x ∷ []) same) in
-    subst (λ x. Covers (Token (Sign n)) 1 (found language (x ∷ rest))) (sym same) (covers_slash_sign n rest (subst (λ x. place_in signs (x ∷ []) ≡ Some n) same e) k.0 k.1)
+      let same : b ≡ 47 = eqb-true b 47 hit in
+      let k = m (ap (λ x. x ∷ []) same) in
+      subst (λ x. Covers (Token (Sign n)) 1 (found language (x ∷ rest))) (sym same) (covers_slash_sign n rest (subst (λ x. place_in signs (x ∷ []) ≡ Some n) same e) k.0 k.1)
   | inr miss ↦ rw (other_class (class_of b) (or_right (b == 47) (is_other (class_of b)) miss f)) (covers_sign n (b ∷ []) rest e f)
 ]
 covers_sign_form language n b (c ∷ bs) rest e m f = rw (other_class (class_of b) (other_first b c bs f)) (covers_sign n (b ∷ c ∷ bs) rest e f)
@@ -161,19 +160,19 @@ covers language LineNote [] rest i = absurd i
 covers language LineNote (a ∷ []) rest i = absurd i
 covers language LineNote (a ∷ b ∷ bs) rest i =
     subst (λ x. Covers LineNote (length (x ∷ b ∷ bs)) (found language ((x ∷ b ∷ bs) ++ rest))) (sym i.0) (
-      subst (λ x. Covers LineNote (length (47 ∷ x ∷ bs)) (found language ((47 ∷ x ∷ bs) ++ rest))) (sym i.1) (covers_line bs rest i.2 i.3))
+    subst (λ x. Covers LineNote (length (47 ∷ x ∷ bs)) (found language ((47 ∷ x ∷ bs) ++ rest))) (sym i.1) (covers_line bs rest i.2 i.3))
 covers language BlockNote [] rest i = absurd i
 covers language BlockNote (a ∷ []) rest i = absurd i
 covers language BlockNote (a ∷ b ∷ []) rest i = absurd i
 covers language BlockNote (a ∷ b ∷ c ∷ bs) rest i =
     subst (λ x. Covers BlockNote (length (x ∷ b ∷ c ∷ bs)) (found language ((x ∷ b ∷ c ∷ bs) ++ rest))) (sym i.0) (
-      subst (λ x. Covers BlockNote (length (47 ∷ x ∷ c ∷ bs)) (found language ((47 ∷ x ∷ c ∷ bs) ++ rest))) (sym i.1) (
-        subst (λ x. Covers BlockNote (length (47 ∷ 47 ∷ x ∷ bs)) (found language ((47 ∷ 47 ∷ x ∷ bs) ++ rest))) (sym i.2) (covers_block bs rest i.3)))
+    subst (λ x. Covers BlockNote (length (47 ∷ x ∷ c ∷ bs)) (found language ((47 ∷ x ∷ c ∷ bs) ++ rest))) (sym i.1) (
+    subst (λ x. Covers BlockNote (length (47 ∷ 47 ∷ x ∷ bs)) (found language ((47 ∷ 47 ∷ x ∷ bs) ++ rest))) (sym i.2) (covers_block bs rest i.3)))
 covers language (Token Comment) [] rest i = absurd i
 covers language (Token Comment) (a ∷ []) rest i = absurd i
 covers language (Token Comment) (a ∷ b ∷ bs) rest i =
     subst (λ x. Covers (Token Comment) (length (x ∷ b ∷ bs)) (found language ((x ∷ b ∷ bs) ++ rest))) (sym i.0) (
-      subst (λ x. Covers (Token Comment) (length (47 ∷ x ∷ bs)) (found language ((47 ∷ x ∷ bs) ++ rest))) (sym i.1) (covers_comment bs rest i.2))
+    subst (λ x. Covers (Token Comment) (length (47 ∷ x ∷ bs)) (found language ((47 ∷ x ∷ bs) ++ rest))) (sym i.1) (covers_comment bs rest i.2))
 covers language (Token Name) [] rest (inl i) = absurd i.0
 covers language (Token Name) [] rest (inr i) = absurd i
 covers language (Token Name) (b ∷ bs) rest (inl i) = covers_word language None b bs rest i.0 i.1

@@ -1,12 +1,11 @@
 -- What a name or a string stands for can be spelt again.
-use Rattle.std.proofs.Common.{◌≡◌, ℕ, zero, suc, ◌+◌, ◌-◌, ◌<◌, ◌≤◌, Bool, true, false, List, [], ◌∷◌, ◌++◌, length, take, drop, get_or, refl, sym, ap, subst, ◌∙◌, inl, inr, arith, ◌⊎◌, length-drop}
-use Rattle.std.specs.Prelude.{cond, Option, Some, None, ◌&&◌, ◌||◌, ◌==◌, nat_le, not, IsUtf8, slice_range}
-use Rattle.std.proofs.lemmas.Bool.{eqb-true, eq-eqb}
+use Rattle.std.proofs.Common.{◌≡◌, ℕ, ◌+◌, ◌-◌, ◌<◌, Bool, true, false, List, [], ◌∷◌, ◌++◌, length, drop, get_or, refl, sym, ap, subst, ◌∙◌, inl, inr, arith, length-drop}
+use Rattle.std.specs.Prelude.{◌==◌, IsUtf8}
+use Rattle.std.proofs.lemmas.Bool.{eq-eqb}
 use Rattle.std.proofs.lemmas.Bool.Decides.{nat_tests}
 use Rattle.std.proofs.lemmas.List.{get_or-drop, drop_more}
 use Rattle.std.proofs.lemmas.List.Folds.{drop_split}
 use Rattle.std.proofs.lemmas.Str.{IsUtf8-drop, IsCharBoundary-after_ascii}
-use Rattle.element_store.specs.declared.outcome.Language.{Language}
 use Rattle.token_core.specs.declared.token.Token.{Token}
 use Rattle.token_core.specs.declared.token.TokenKind.TheVariants.{Name, Quote}
 use Rattle.token_core.specs.Bytes.{IsRun, is_word, is_letter, is_plain, is_escape, escape_meaning}
@@ -40,6 +39,7 @@ plain_apart : (q b : ℕ) → is_plain q b ≡ true → ((b == q) ≡ false) × 
 plain_apart q b e = (first q b e, second q b e) where
   first : (q b : ℕ) → is_plain q b ≡ true → (b == q) ≡ false
   first q b e = grind (arith, nat_tests)
+
   second : (q b : ℕ) → is_plain q b ≡ true → (b == 92) ≡ false
   second q b e = grind (arith, nat_tests)
 

@@ -1,14 +1,13 @@
 -- A text has one lexing.
-use Rattle.std.proofs.Common.{◌≡◌, ◌≢◌, ℕ, zero, suc, ◌+◌, ◌-◌, ◌<◌, ◌≤◌, List, [], ◌∷◌, length, take, refl, sym, ap, subst, ◌∙◌, arith}
-use Rattle.std.specs.Prelude.{Option, Some, None, Result, Ok, Err, IsUtf8}
+use Rattle.std.proofs.Common.{◌≡◌, ℕ, List, [], length, refl, sym, ap, subst, ◌∙◌, arith}
+use Rattle.std.specs.Prelude.{Some, None, Ok, Err, IsUtf8}
 use Rattle.std.specs.Str.{IsValidUpTo}
 use Rattle.std.proofs.Math.Seq.{take-length}
 use Rattle.std.proofs.lemmas.Str.{utf8_valid_len-IsValidUpTo}
 use Rattle.element_store.specs.declared.outcome.Language.{Language}
 use Rattle.token_core.specs.declared.token.Token.{Token}
-use Rattle.token_core.specs.declared.token.LexFault.{LexFault}
 use Rattle.token_core.specs.declared.token.LexFault.TheVariants.{Encoding, Token as BadToken, TooDeep, NoMemory}
-use Rattle.token_core.specs.Lex.{Lex, Lexes, IsTokenPlace, tokens_from, too_deep}
+use Rattle.token_core.specs.Lex.{Lex, IsTokenPlace, tokens_from, too_deep}
 use Rattle.token_core.specs.Laws.{OneLexing}
 use Rattle.token_core.proofs.Cuts.{one_cut, none_found}
 

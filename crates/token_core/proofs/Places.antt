@@ -1,9 +1,8 @@
 -- How many signs and words there are, so that their numbers fit a byte.
-use Rattle.std.proofs.Common.{◌≡◌, ℕ, ◌<◌, ◌≤◌, List, length, refl, sym, arith}
+use Rattle.std.proofs.Common.{◌≡◌, ℕ, ◌<◌, List, length, refl, sym}
 use Rattle.std.specs.Prelude.{Some, None, Option, IfSome}
 use Rattle.std.proofs.lemmas.List.Quantifiers.{position-Some}
 use Rattle.std.specs.Str.{bytes_eq}
-use Rattle.element_store.specs.declared.outcome.Language.{Language}
 use Rattle.element_store.specs.declared.outcome.Language.TheVariants.{Kerml, Sysml}
 use Rattle.token_core.specs.Words.{signs, words, place_in}
 

@@ -1,23 +1,22 @@
 -- What the lexer finds is a piece.
-use Rattle.std.proofs.Common.{◌≡◌, ◌≢◌, ℕ, zero, suc, ◌+◌, ◌<◌, ◌≤◌, Bool, true, false, List, [], ◌∷◌, ◌++◌, length, take, drop, refl, sym, ap, subst, ◌∙◌, inl, inr, arith, ◌⊎◌}
-use Rattle.std.specs.Prelude.{cond, Option, Some, None, option_map, ◌&&◌, ◌||◌, ◌==◌, nat_le, not, MatchOption}
+use Rattle.std.proofs.Common.{◌≡◌, ℕ, zero, suc, ◌+◌, ◌<◌, ◌≤◌, Bool, true, false, List, [], ◌∷◌, length, take, drop, refl, sym, subst, inl, inr, arith}
+use Rattle.std.specs.Prelude.{Option, Some, None, option_map, ◌==◌, nat_le, MatchOption}
 use Rattle.std.specs.List.{prefix_len}
-use Rattle.std.proofs.lemmas.Bool.{eqb-true, leb-true, eq-eqb, le-leb}
+use Rattle.std.proofs.lemmas.Bool.{eqb-true, leb-true}
 use Rattle.std.proofs.lemmas.List.{take-append-drop}
 use Rattle.std.proofs.lemmas.List.Sums.{prefix_len-le-length}
 use Rattle.std.proofs.Math.Numerals.{one-add}
-use Rattle.linker_base.proofs.Cases.{bool_cases, option_cases}
+use Rattle.linker_base.proofs.Cases.{bool_cases}
 use Rattle.element_store.specs.declared.outcome.Language.{Language}
-use Rattle.token_core.specs.declared.token.TokenKind.TheVariants.{Name, Integer, Quote, Comment, Sign, Word}
-use Rattle.token_core.specs.declared.token.PieceKind.{PieceKind}
+use Rattle.token_core.specs.declared.token.TokenKind.TheVariants.{Name, Integer, Quote, Comment, Sign}
 use Rattle.token_core.specs.declared.token.PieceKind.TheVariants.{Space, LineNote, BlockNote, Token}
-use Rattle.token_core.specs.declared.token.Found.{Found}
-use Rattle.token_core.specs.declared.token.ByteClass.{ByteClass}
-use Rattle.token_core.specs.declared.token.ByteClass.TheVariants.{Blank, Letter, Digit, NameQuote, TextQuote, Slash, Other}
-use Rattle.token_core.specs.Bytes.{IsRun, BeginsOther, is_space, is_letter, is_digit, is_word, is_in_line}
+use Rattle.token_core.specs.declared.pieces.Found.{Found}
+use Rattle.token_core.specs.declared.pieces.ByteClass.{ByteClass}
+use Rattle.token_core.specs.declared.pieces.ByteClass.TheVariants.{Blank, Letter, Digit, NameQuote, TextQuote, Slash, Other}
+use Rattle.token_core.specs.Bytes.{BeginsOther, is_space, is_letter, is_digit, is_word, is_in_line}
 use Rattle.token_core.specs.Words.{signs, words, place_in}
-use Rattle.token_core.specs.Pieces.{IsPiece, IsSome, IsBasicName, IsUpToClose, IsUpToQuote, IsQuoted, MayFollowSign}
-use Rattle.token_core.specs.Scan.{class_of, found, found_by, found_of, begins, close_end, quote_end, kind_of_number, word_kind, word_at, sign_of, sign_at, first_of_two, quoted_at, note_at, slash_at}
+use Rattle.token_core.specs.Pieces.{IsPiece, IsSomeRun, IsBasicName, MayFollowSign}
+use Rattle.token_core.specs.Scan.{class_of, found, found_by, found_of, close_end, quote_end, kind_of_number, word_kind, word_at, sign_of, sign_at, first_of_two, quoted_at, note_at, slash_at}
 use Rattle.token_core.proofs.Runs.{run_of, other_begins, close_right, quote_right}
 
 -- the piece found stands at the front of the text
@@ -62,7 +61,7 @@ class_tells b = elim (bool_cases (is_space b)) [
 ]
 
 -- a run whose first byte passes
-run_some : (p : ℕ → Bool) (b : ℕ) (bs : List ℕ) → p b ≡ true → (0 < prefix_len p (b ∷ bs)) × IsSome p (take (prefix_len p (b ∷ bs)) (b ∷ bs))
+run_some : (p : ℕ → Bool) (b : ℕ) (bs : List ℕ) → p b ≡ true → (0 < prefix_len p (b ∷ bs)) × IsSomeRun p (take (prefix_len p (b ∷ bs)) (b ∷ bs))
 run_some p b bs e = rw (e, one-add) (omega arith, (e, run_of p bs))
 
 right_space : (language : Language) (b : ℕ) (bs : List ℕ) → is_space b ≡ true → Right language (b ∷ bs) (found_of Space (prefix_len is_space (b ∷ bs)))
@@ -119,7 +118,7 @@ right_of_two language text (Some f) other h k = h
 right_sign_at : (language : Language) (text : List ℕ) → ((size : ℕ) → MayFollowSign (take (suc size) text) (drop (suc size) text)) → RightIf language text (sign_at text)
 right_sign_at language text may =
     right_of_two language text (sign_of 3 text) (first_of_two (sign_of 2 text) (sign_of 1 text)) (right_sign_of language 3 text (omega arith) (may 2)) (
-      right_of_two language text (sign_of 2 text) (sign_of 1 text) (right_sign_of language 2 text (omega arith) (may 1)) (right_sign_of language 1 text (omega arith) (may 0)))
+    right_of_two language text (sign_of 2 text) (sign_of 1 text) (right_sign_of language 2 text (omega arith) (may 1)) (right_sign_of language 1 text (omega arith) (may 0)))
 
 right_other : (language : Language) (b : ℕ) (bs : List ℕ) → (b ≡ 47 → ⊥) → RightIf language (b ∷ bs) (sign_at (b ∷ bs))
 right_other language b bs o = right_sign_at language (b ∷ bs) (λ size e. absurd (o (head e))) where

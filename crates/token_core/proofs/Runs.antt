@@ -1,11 +1,11 @@
 -- Fronts of a text in one form: how far the scanning goes, against the forms of pieces.
-use Rattle.std.proofs.Common.{◌≡◌, ◌≢◌, ℕ, zero, suc, ◌+◌, ◌<◌, ◌≤◌, Bool, true, false, List, [], ◌∷◌, ◌++◌, length, take, drop, refl, sym, ap, subst, ◌∙◌, inl, inr, arith, ◌⊎◌}
-use Rattle.std.specs.Prelude.{cond, Option, Some, None, option_map, ◌&&◌, ◌||◌, ◌==◌, nat_le, not, MatchOption}
+use Rattle.std.proofs.Common.{◌≡◌, ℕ, suc, ◌≤◌, Bool, true, false, List, [], ◌∷◌, ◌++◌, length, take, refl, ap, subst, inl, inr, arith, ◌⊎◌}
+use Rattle.std.specs.Prelude.{Option, Some, None, option_map, ◌&&◌, ◌==◌}
 use Rattle.std.specs.List.{prefix_len}
-use Rattle.std.proofs.lemmas.Bool.{eqb-true, leb-true, eq-eqb}
+use Rattle.std.proofs.lemmas.Bool.{eqb-true, eq-eqb}
 use Rattle.std.proofs.lemmas.Bool.Decides.{nat_tests}
 use Rattle.std.proofs.Math.Numerals.{one-add}
-use Rattle.linker_base.proofs.Cases.{bool_cases, option_cases}
+use Rattle.linker_base.proofs.Cases.{bool_cases}
 use Rattle.token_core.specs.Bytes.{IsRun, BeginsOther, is_plain, is_escape}
 use Rattle.token_core.specs.Pieces.{IsUpToClose, IsUpToQuote}
 use Rattle.token_core.specs.Scan.{close_end, quote_end, begins}
@@ -65,18 +65,20 @@ close_right starred [] n e = absurd (cc)
 close_right starred (b ∷ bs) n e = elim (bool_cases (starred && (b == 47))) [
   | inl hit ↦ closed starred b bs n hit (rw hit at e)
   | inr miss ↦
-    let m = one_more (close_end (b == 42) bs) n (rw miss at e) in
-    let h = close_right (b == 42) bs m.0 m.1 in
-    rw m.2 (omega (arith, h.0), before starred b (take m.0 bs) miss (after (b == 42) b (take m.0 bs) refl h.1))
+      let m = one_more (close_end (b == 42) bs) n (rw miss at e) in
+      let h = close_right (b == 42) bs m.0 m.1 in
+      rw m.2 (omega (arith, h.0), before starred b (take m.0 bs) miss (after (b == 42) b (take m.0 bs) refl h.1))
 ] where
   closed : (starred : Bool) (c : ℕ) (cs : List ℕ) (n : ℕ) → (starred && (c == 47)) ≡ true → Some 1 ≡ Some n → (n ≤ length (c ∷ cs)) × IsClosedAfter starred (take n (c ∷ cs))
   closed false c cs n hit e = absurd (cc)
   closed true c cs n hit e =
       let one : 1 ≡ n = cc in
       subst (λ k. (k ≤ length (c ∷ cs)) × IsClosedAfter true (take k (c ∷ cs))) one (omega arith, inl (ap (λ x. x ∷ []) (eqb-true c 47 hit)))
+
   before : (starred : Bool) (c : ℕ) (cs : List ℕ) → ((starred && (c == 47)) ≡ false) → IsUpToClose (c ∷ cs) → IsClosedAfter starred (c ∷ cs)
   before false c cs miss h = h
   before true c cs miss h = inr (other_begins 47 (c ∷ []) miss, h)
+
   after : (x : Bool) (c : ℕ) (cs : List ℕ) → (c == 42) ≡ x → IsClosedAfter x cs → IsUpToClose (c ∷ cs)
   after true c cs s (inl h) = inl (eqb-true c 42 s, h)
   after true c cs s (inr h) = inr (λ _. h.0, h.1)
@@ -100,6 +102,7 @@ quote_at q false (b ∷ bs) rest o (inr (inr h)) =
   where
     plain_other : (q b : ℕ) → is_plain q b ≡ true → (b == q) ≡ false
     plain_other q b h = grind (arith, nat_tests)
+
     plain_slash : (q b : ℕ) → is_plain q b ≡ true → (b == 92) ≡ false
     plain_slash q b h = grind (arith, nat_tests)
 
@@ -108,26 +111,26 @@ pub quote_right : (q : ℕ) (escaped : Bool) (text : List ℕ) (n : ℕ) → quo
 quote_right q escaped [] n e = absurd (cc)
 quote_right q true (b ∷ bs) n e = elim (bool_cases (is_escape b)) [
   | inl hit ↦
-    let m = one_more (quote_end q false bs) n (rw hit at e) in
-    let h = quote_right q false bs m.0 m.1 in
-    rw m.2 (omega (arith, h.0), (hit, h.1))
+      let m = one_more (quote_end q false bs) n (rw hit at e) in
+      let h = quote_right q false bs m.0 m.1 in
+      rw m.2 (omega (arith, h.0), (hit, h.1))
   | inr miss ↦ let f : None ≡ Some n = rw miss at e in absurd (cc)
 ]
 quote_right q false (b ∷ bs) n e = elim (bool_cases (b == q)) [
   | inl hit ↦
-    let f : Some 1 ≡ Some n = rw hit at e in
-    let one : 1 ≡ n = cc in
-    subst (λ k. (k ≤ length (b ∷ bs)) × IsUpToQuote q false (take k (b ∷ bs))) one (omega arith, inl (eqb-true b q hit, refl))
+      let f : Some 1 ≡ Some n = rw hit at e in
+      let one : 1 ≡ n = cc in
+      subst (λ k. (k ≤ length (b ∷ bs)) × IsUpToQuote q false (take k (b ∷ bs))) one (omega arith, inl (eqb-true b q hit, refl))
   | inr other ↦ elim (bool_cases (b == 92)) [
     | inl slash ↦
-      let m = one_more (quote_end q true bs) n (rw (other, slash) at e) in
-      let h = quote_right q true bs m.0 m.1 in
-      rw m.2 (omega (arith, h.0), inr (inl (eqb-true b 92 slash, h.1)))
+        let m = one_more (quote_end q true bs) n (rw (other, slash) at e) in
+        let h = quote_right q true bs m.0 m.1 in
+        rw m.2 (omega (arith, h.0), inr (inl (eqb-true b 92 slash, h.1)))
     | inr back ↦ elim (bool_cases (is_plain q b)) [
       | inl plain ↦
-        let m = one_more (quote_end q false bs) n (rw (plain, other, back) at e) in
-        let h = quote_right q false bs m.0 m.1 in
-        rw m.2 (omega (arith, h.0), inr (inr (plain, h.1)))
+          let m = one_more (quote_end q false bs) n (rw (plain, other, back) at e) in
+          let h = quote_right q false bs m.0 m.1 in
+          rw m.2 (omega (arith, h.0), inr (inr (plain, h.1)))
       | inr bad ↦ let f : None ≡ Some n = rw (bad, other, back) at e in absurd (cc)
     ]
   ]

@@ -1,15 +1,14 @@
 -- What all signs have in common.
-use Rattle.std.proofs.Common.{◌≡◌, ◌≢◌, ℕ, zero, suc, ◌+◌, ◌<◌, ◌≤◌, Bool, true, false, List, [], ◌∷◌, ◌++◌, length, take, drop, refl, sym, ap, subst, ◌∙◌, inl, inr, arith, ◌⊎◌, get_or}
-use Rattle.std.specs.Prelude.{cond, Option, Some, None, option_map, ◌&&◌, ◌||◌, ◌==◌, nat_le, not, MatchOption}
+use Rattle.std.proofs.Common.{◌≡◌, ℕ, Bool, true, false, List, [], ◌∷◌, refl, subst, inl, inr, get_or}
+use Rattle.std.specs.Prelude.{Some, ◌||◌, ◌==◌}
 use Rattle.std.specs.List.{list_all}
 use Rattle.std.specs.Str.{bytes_eq}
-use Rattle.std.proofs.lemmas.Bool.{eqb-true, leb-true, eq-eqb}
 use Rattle.std.proofs.lemmas.Slice.Eq.{bytes_eq-Decides}
 use Rattle.std.proofs.lemmas.List.Folds.{list_all_at}
 use Rattle.std.proofs.lemmas.List.Quantifiers.{position-Some}
 use Rattle.linker_base.proofs.Cases.{bool_cases}
-use Rattle.token_core.specs.declared.token.ByteClass.{ByteClass}
-use Rattle.token_core.specs.declared.token.ByteClass.TheVariants.{Blank, Letter, Digit, NameQuote, TextQuote, Slash, Other}
+use Rattle.token_core.specs.declared.pieces.ByteClass.{ByteClass}
+use Rattle.token_core.specs.declared.pieces.ByteClass.TheVariants.{Other}
 use Rattle.token_core.specs.Words.{signs, place_in}
 use Rattle.token_core.specs.Scan.{class_of}
 

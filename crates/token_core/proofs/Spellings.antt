@@ -1,20 +1,19 @@
 -- A spelling is one token, and reading it gives back what was spelt.
-use Rattle.std.proofs.Common.{◌≡◌, ℕ, zero, suc, ◌+◌, ◌-◌, ◌<◌, ◌≤◌, Bool, true, false, List, [], ◌∷◌, ◌++◌, length, take, drop, refl, sym, ap, subst, ◌∙◌, inl, inr, arith, ◌⊎◌, append-nil}
-use Rattle.std.specs.Prelude.{cond, Option, Some, None, is_none, ◌&&◌, ◌||◌, ◌==◌, nat_le, not, IsUtf8}
+use Rattle.std.proofs.Common.{◌≡◌, ℕ, Bool, true, false, List, [], ◌∷◌, ◌++◌, length, refl, sym, ap, ◌∙◌, inl, inr, arith, ◌⊎◌, append-nil}
+use Rattle.std.specs.Prelude.{Option, Some, None, is_none, ◌&&◌, ◌==◌, IsUtf8}
 use Rattle.std.specs.List.{list_all}
-use Rattle.std.proofs.lemmas.Bool.{and_parts, eqb-true, eq-eqb}
+use Rattle.std.proofs.lemmas.Bool.{and_parts, eq-eqb}
 use Rattle.std.proofs.lemmas.Bool.Decides.{nat_tests}
 use Rattle.std.proofs.lemmas.List.{length-append}
-use Rattle.linker_base.proofs.Cases.{bool_cases, option_cases}
+use Rattle.linker_base.proofs.Cases.{bool_cases}
 use Rattle.element_store.specs.declared.outcome.Language.{Language}
 use Rattle.token_core.specs.declared.token.TokenKind.{TokenKind}
 use Rattle.token_core.specs.declared.token.TokenKind.TheVariants.{Name, Quote}
-use Rattle.token_core.specs.declared.token.PieceKind.{PieceKind}
 use Rattle.token_core.specs.declared.token.PieceKind.TheVariants.{Token as Kept}
 use Rattle.token_core.specs.Bytes.{IsRun, is_word, is_letter, is_plain, is_escape, escape_meaning}
 use Rattle.token_core.specs.Words.{words, place_in}
 use Rattle.token_core.specs.Pieces.{IsPiece, IsLongest, IsBasicName, IsUpToQuote}
-use Rattle.token_core.specs.Lex.{Piece, Cut, Lex, too_deep}
+use Rattle.token_core.specs.Lex.{Piece, Cut, too_deep}
 use Rattle.token_core.specs.Reading.{decoded, is_spellable, name_meaning, string_meaning, IsSpellable}
 use Rattle.token_core.specs.Spelling.{spelt, quoted, written, escape_letter, is_basic_name, name_spelling, string_spelling, IsOneToken}
 use Rattle.token_core.proofs.Characters.{quoted_utf8}
@@ -24,6 +23,7 @@ as_it_is : (q b : ℕ) → escape_letter q b ≡ None → ((b == q) ≡ false) �
 as_it_is q b e = (first q b e, second q b e) where
   first : (q b : ℕ) → escape_letter q b ≡ None → (b == q) ≡ false
   first q b e = grind (arith, nat_tests)
+
   second : (q b : ℕ) → escape_letter q b ≡ None → (b == 92) ≡ false
   second q b e = grind (arith, nat_tests)
 
@@ -66,8 +66,10 @@ one_token : (language : Language) (kind : TokenKind) (text : List ℕ) → IsUtf
 one_token language kind text u i flat = (u, (p ∷ [], cut, ap (λ n. record { kind = kind; from = 0; upto = n } ∷ []) (omega arith)), flat) where
   p : Piece
   p = record { kind = Kept kind; bytes = text }
+
   whole : IsLongest language (Kept kind) text []
   whole = record { piece = i; longest = λ k bs rest e j. omega (arith, ap length e, length-append bs rest, length-append text []) }
+
   cut : Cut language (p ∷ []) text []
   cut = ([], sym (append-nil text), whole, refl)
 
@@ -95,8 +97,8 @@ none_is (Some n) e = absurd (cc)
 pub name_one : (language : Language) (bs : List ℕ) → IsSpellable bs → IsOneToken language Name (name_spelling language bs)
 name_one language bs s = elim (bool_cases (is_basic_name bs && is_none (place_in (words language) bs))) [
   | inl bare ↦
-    let h = and_parts (is_basic_name bs) (is_none (place_in (words language) bs)) bare in
-    rw bare (one_token language Name bs s.utf8 (inl (basic_name bs h.0, none_is (place_in (words language) bs) h.1)) refl)
+      let h = and_parts (is_basic_name bs) (is_none (place_in (words language) bs)) bare in
+      rw bare (one_token language Name bs s.utf8 (inl (basic_name bs h.0, none_is (place_in (words language) bs) h.1)) refl)
   | inr other ↦ rw other (one_token language Name (quoted 39 bs) (quoted_utf8 39 bs (omega arith) s.utf8) (inr (refl, quote_spelt 39 bs (inl refl) s.each)) refl)
 ]
 

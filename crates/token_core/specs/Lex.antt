@@ -1,9 +1,9 @@
 -- A text as the pieces that it is made of, its tokens, and the faults of a text that has none.
-use Rattle.std.specs.Prelude.{◌≡◌, ℕ, ◌+◌, ◌-◌, ◌<◌, ◌==◌, ◌||◌, Bool, true, false, cond, List, [], ◌∷◌, ◌++◌, length, Option, Some, None, Result, Ok, Err, IsUtf8}
+use Rattle.std.specs.Prelude.{◌≡◌, ℕ, ◌+◌, ◌-◌, ◌<◌, ◌==◌, ◌&&◌, ◌||◌, Bool, false, cond, List, [], ◌∷◌, ◌++◌, length, Option, Some, None, Result, Ok, Err, IsUtf8}
 use Rattle.std.specs.Str.{IsValidUpTo}
 use Rattle.element_store.specs.declared.outcome.Language.{Language}
 use Rattle.token_core.specs.declared.token.TokenKind.{TokenKind}
-use Rattle.token_core.specs.declared.token.TokenKind.TheVariants.{Name, Integer, Quote, Comment, Sign, Word}
+use Rattle.token_core.specs.declared.token.TokenKind.TheVariants.{Sign}
 use Rattle.token_core.specs.declared.token.PieceKind.{PieceKind}
 use Rattle.token_core.specs.declared.token.PieceKind.TheVariants.{Space, LineNote, BlockNote, Token as Kept}
 use Rattle.token_core.specs.declared.token.Token.{Token}
@@ -56,10 +56,13 @@ abbrev pub is_closing : TokenKind → Bool
 is_closing (Sign n) = (n == 1) || ((n == 3) || (n == 5))
 is_closing _ = false
 
+abbrev pub nesting_after : ℕ → TokenKind → ℕ
+nesting_after nesting kind = cond (is_opening kind) (nesting + 1) (cond (is_closing kind) (nesting - 1) nesting)
+
 -- the place of the bracket that would raise the nesting to 65, from this nesting on
 abbrev pub too_deep : ℕ → List Token → Option ℕ
 too_deep nesting [] = None
-too_deep nesting (t ∷ ts) = cond (is_opening t.kind) (cond (nesting == 64) (Some t.from) (too_deep (nesting + 1) ts)) (cond (is_closing t.kind) (too_deep (nesting - 1) ts) (too_deep nesting ts))
+too_deep nesting (t ∷ ts) = cond (is_opening t.kind && (nesting == 64)) (Some t.from) (too_deep (nesting_after nesting t.kind) ts)
 
 -- what the lexer answers of a text: its tokens, or the first of the faults that it has
 abbrev pub Lexes : Language → List ℕ → Result (List Token) LexFault → Type 0

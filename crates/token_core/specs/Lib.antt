@@ -3,7 +3,6 @@ pub mod Words
 pub mod Pieces
 pub mod Lex
 pub mod Scan
-pub mod Run
 pub mod Laws
 pub mod Reading
 pub mod Spelling

@@ -1,7 +1,6 @@
 -- The forms of a piece of text.
-use Rattle.std.specs.Prelude.{◌≡◌, ◌⊎◌, ℕ, ◌+◌, ◌<◌, ◌≤◌, Bool, true, false, List, [], ◌∷◌, ◌++◌, length, Option, Some, None}
+use Rattle.std.specs.Prelude.{◌≡◌, ◌⊎◌, ℕ, ◌≤◌, Bool, true, false, List, [], ◌∷◌, ◌++◌, length, Some, None}
 use Rattle.element_store.specs.declared.outcome.Language.{Language}
-use Rattle.token_core.specs.declared.token.TokenKind.{TokenKind}
 use Rattle.token_core.specs.declared.token.TokenKind.TheVariants.{Name, Integer, Quote, Comment, Sign, Word}
 use Rattle.token_core.specs.declared.token.PieceKind.{PieceKind}
 use Rattle.token_core.specs.declared.token.PieceKind.TheVariants.{Space, LineNote, BlockNote, Token}
@@ -9,9 +8,9 @@ use Rattle.token_core.specs.Bytes.{is_space, is_digit, is_letter, is_word, is_in
 use Rattle.token_core.specs.Words.{signs, words, place_in}
 
 -- at least one byte, and each passes
-abbrev pub IsSome : (ℕ → Bool) → List ℕ → Type 0
-IsSome p [] = ⊥
-IsSome p (b ∷ bs) = (p b ≡ true) × IsRun p bs
+abbrev pub IsSomeRun : (ℕ → Bool) → List ℕ → Type 0
+IsSomeRun p [] = ⊥
+IsSomeRun p (b ∷ bs) = (p b ≡ true) × IsRun p bs
 
 -- a letter or `_`, then letters, digits and `_`
 abbrev pub IsBasicName : List ℕ → Type 0
@@ -39,7 +38,7 @@ MayFollowSign bytes more = bytes ≡ 47 ∷ [] → BeginsOther 47 more × Begins
 
 -- the bytes are a piece of this kind where these follow
 abbrev pub IsPiece : Language → PieceKind → List ℕ → List ℕ → Type 0
-IsPiece language Space bytes more = IsSome is_space bytes
+IsPiece language Space bytes more = IsSomeRun is_space bytes
 IsPiece language LineNote [] more = ⊥
 IsPiece language LineNote (a ∷ []) more = ⊥
 IsPiece language LineNote (a ∷ b ∷ bytes) more = (a ≡ 47) × (b ≡ 47) × BeginsOther 42 (bytes ++ more) × IsRun is_in_line bytes
@@ -53,7 +52,7 @@ IsPiece language (Token Comment) (a ∷ b ∷ bytes) more = (a ≡ 47) × (b ≡
 IsPiece language (Token Name) bytes more = (IsBasicName bytes × (place_in (words language) bytes ≡ None)) ⊎ IsQuoted 39 bytes
 IsPiece language (Token (Word n)) bytes more = IsBasicName bytes × (place_in (words language) bytes ≡ Some n)
 IsPiece language (Token Quote) bytes more = IsQuoted 34 bytes
-IsPiece language (Token Integer) bytes more = IsSome is_digit bytes
+IsPiece language (Token Integer) bytes more = IsSomeRun is_digit bytes
 IsPiece language (Token (Sign n)) bytes more = (place_in signs bytes ≡ Some n) × MayFollowSign bytes more
 
 -- a piece of this kind, and no longer piece of any kind begins at its place

@@ -1,13 +1,13 @@
 -- The piece at the front of a text as the lexer finds it, by its first bytes.
-use Rattle.std.specs.Prelude.{◌≡◌, ℕ, suc, ◌+◌, nat_le, ◌==◌, ◌&&◌, Bool, true, false, cond, List, [], ◌∷◌, length, take, drop, Option, Some, None, option_map}
+use Rattle.std.specs.Prelude.{ℕ, suc, ◌+◌, nat_le, ◌==◌, ◌&&◌, Bool, true, false, cond, List, [], ◌∷◌, length, take, drop, Option, Some, None, option_map}
 use Rattle.std.specs.List.{prefix_len}
 use Rattle.element_store.specs.declared.outcome.Language.{Language}
 use Rattle.token_core.specs.declared.token.TokenKind.TheVariants.{Name, Integer, Quote, Comment, Sign, Word}
 use Rattle.token_core.specs.declared.token.PieceKind.{PieceKind}
 use Rattle.token_core.specs.declared.token.PieceKind.TheVariants.{Space, LineNote, BlockNote, Token}
-use Rattle.token_core.specs.declared.token.Found.{Found}
-use Rattle.token_core.specs.declared.token.ByteClass.{ByteClass}
-use Rattle.token_core.specs.declared.token.ByteClass.TheVariants.{Blank, Letter, Digit, NameQuote, TextQuote, Slash, Other}
+use Rattle.token_core.specs.declared.pieces.Found.{Found}
+use Rattle.token_core.specs.declared.pieces.ByteClass.{ByteClass}
+use Rattle.token_core.specs.declared.pieces.ByteClass.TheVariants.{Blank, Letter, Digit, NameQuote, TextQuote, Slash, Other}
 use Rattle.token_core.specs.Bytes.{is_space, is_digit, is_letter, is_word, is_in_line, is_plain, is_escape}
 use Rattle.token_core.specs.Words.{signs, words, place_in}
 

@@ -1,5 +1,5 @@
 -- The numbers of the kinds of tokens in the tables of grammars.
-use Rattle.std.specs.Prelude.{◌≡◌, ℕ, ◌+◌, ◌<◌}
+use Rattle.std.specs.Prelude.{ℕ, ◌+◌, ◌<◌}
 use Rattle.token_core.specs.declared.token.TokenKind.{TokenKind}
 use Rattle.token_core.specs.declared.token.TokenKind.TheVariants.{Name, Integer, Quote, Comment, Sign, Word}
 

@@ -1,5 +1,5 @@
 -- The signs and the reserved words as lists.
-use Rattle.std.specs.Prelude.{◌≡◌, ℕ, ◌==◌, Option, List}
+use Rattle.std.specs.Prelude.{ℕ, ◌==◌, Option, List}
 use Rattle.std.specs.List.{slice_split, position}
 use Rattle.std.specs.Str.{bytes_eq}
 use Rattle.element_store.specs.declared.outcome.Language.{Language}

@@ -83,5 +83,4 @@ pub fn lex(alloc: Global, text: &[u8], language: Language) -> Result<Tokens, Lex
 /// A text has one lexing: two answers of which neither is want of memory are the same.
 pub fn one_lexing()
     ensures { OneLexing }
-{
-}
+{}

@@ -18,3 +18,7 @@ pub use reading::{integer_of, name_of, string_of};
 pub use spelling::{spell_name, spell_string};
 pub use terminal::terminal_of;
 pub use token::{LexFault, Token, TokenKind, Tokens};
+pub use words::word_number;
+
+#[cfg(test)]
+mod tests;

@@ -4,10 +4,29 @@ ghost use Rattle.std.specs.Prelude.{◌≡◌, ◌≤◌, ◌<◌, ◌==◌, len
 ghost use Rattle.token_core.specs.Scan.{class_of, found, found_by, note_at, quoted_at, sign_at, sign_of, slash_at, word_at, word_kind};
 ghost use Rattle.token_core.specs.Words.{place_in, signs, words};
 
-use crate::scan;
-use crate::token::{ByteClass, Found, PieceKind, TokenKind};
-use crate::words;
+use crate::token::{PieceKind, TokenKind};
+use crate::{scan, words};
 use element_store::Language;
+
+/// A piece that begins a text.
+#[derive(Clone, Copy, Debug, PartialEq, Eq)]
+pub struct Found {
+    pub kind: PieceKind,
+    /// In bytes, and at least one.
+    pub length: usize,
+}
+
+/// What the first byte of a piece tells of its form.
+#[derive(Clone, Copy, Debug, PartialEq, Eq)]
+pub enum ByteClass {
+    Blank,
+    Letter,
+    Digit,
+    NameQuote,
+    TextQuote,
+    Slash,
+    Other,
+}
 
 /// What the first byte of a piece tells of its form.
 fn class_of_byte(byte: u8) -> ByteClass
@@ -39,7 +58,10 @@ fn word_piece(text: &[u8], language: Language) -> Found
         Some(number) => TokenKind::Word(number),
         None => TokenKind::Name,
     };
-    Found { kind: PieceKind::Token(kind), length }
+    Found {
+        kind: PieceKind::Token(kind),
+        length,
+    }
 }
 
 /// A quoted name or a string, where the text begins with its quote.
@@ -48,7 +70,10 @@ fn quoted_piece(text: &[u8], kind: TokenKind, quote: u8) -> Option<Found>
     ensures { result ≡ quoted_at (PieceKind.Token kind) quote text.now }
 {
     let length = scan::quote_length(&text[1..], quote)?;
-    Some(Found { kind: PieceKind::Token(kind), length: 1 + length })
+    Some(Found {
+        kind: PieceKind::Token(kind),
+        length: 1 + length,
+    })
 }
 
 /// A note, of which `rest` stands after the two slashes.
@@ -57,10 +82,16 @@ fn note_piece(rest: &[u8]) -> Option<Found>
 {
     if rest.first() == Some(&b'*') {
         let length = scan::close_length(&rest[1..])?;
-        return Some(Found { kind: PieceKind::BlockNote, length: 3 + length });
+        return Some(Found {
+            kind: PieceKind::BlockNote,
+            length: 3 + length,
+        });
     }
     let length = scan::line_length(rest);
-    Some(Found { kind: PieceKind::LineNote, length: 2 + length })
+    Some(Found {
+        kind: PieceKind::LineNote,
+        length: 2 + length,
+    })
 }
 
 /// A note, a comment or the sign `/`, where the text begins with a slash.
@@ -71,7 +102,10 @@ fn slash_piece(text: &[u8]) -> Option<Found>
         [_, b'/', rest @ ..] => note_piece(rest),
         [_, b'*', rest @ ..] => {
             let length = scan::close_length(rest)?;
-            Some(Found { kind: PieceKind::Token(TokenKind::Comment), length: 2 + length })
+            Some(Found {
+                kind: PieceKind::Token(TokenKind::Comment),
+                length: 2 + length,
+            })
         }
         _ => sign_piece(text),
     }
@@ -82,7 +116,10 @@ fn sign_of_length(text: &[u8], length: usize) -> Option<Found>
     ensures { result ≡ sign_of length text.now }
 {
     let number = words::sign_number(text.get(..length)?)?;
-    Some(Found { kind: PieceKind::Token(TokenKind::Sign(number)), length })
+    Some(Found {
+        kind: PieceKind::Token(TokenKind::Sign(number)),
+        length,
+    })
 }
 
 /// The longest sign. None has more than three bytes.
@@ -103,7 +140,10 @@ pub fn piece_at(text: &[u8], language: Language) -> Option<Found>
     ensures { result ≡ found language text.now }
 {
     match class_of_byte(*text.first()?) {
-        ByteClass::Blank => Some(Found { kind: PieceKind::Space, length: scan::space_length(text) }),
+        ByteClass::Blank => Some(Found {
+            kind: PieceKind::Space,
+            length: scan::space_length(text),
+        }),
         ByteClass::Letter => Some(word_piece(text, language)),
         ByteClass::Digit => Some(Found {
             kind: PieceKind::Token(TokenKind::Integer),

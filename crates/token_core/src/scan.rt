@@ -37,7 +37,13 @@ pub fn is_plain_byte(byte: u8, quote: u8) -> bool
 pub fn is_escape_byte(byte: u8) -> bool
     ensures { result ≡ is_escape byte }
 {
-    byte == b'\'' || byte == b'"' || byte == b'b' || byte == b'f' || byte == b't' || byte == b'n' || byte == b'\\'
+    byte == b'\''
+        || byte == b'"'
+        || byte == b'b'
+        || byte == b'f'
+        || byte == b't'
+        || byte == b'n'
+        || byte == b'\\'
 }
 
 /// How many spaces stand at the front.
@@ -69,7 +75,9 @@ pub fn line_length(text: &[u8]) -> usize
     ensures value { result ≡ prefix_len is_in_line text.now }
     ensures within { result ≤ length text.now }
 {
-    text.iter().take_while(|byte| **byte != b'\n' && **byte != b'\r').count()
+    text.iter()
+        .take_while(|byte| **byte != b'\n' && **byte != b'\r')
+        .count()
 }
 
 /// How many bytes there are up to and with the first `*/`.

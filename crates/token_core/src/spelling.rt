@@ -6,9 +6,8 @@ ghost use Rattle.token_core.specs.Bytes.{is_word};
 ghost use Rattle.token_core.specs.Reading.{name_meaning, string_meaning, IsSpellable};
 ghost use Rattle.token_core.specs.Spelling.{escape_letter, is_basic_name, name_spelling, quoted, string_spelling, written, IsOneToken};
 
-use crate::scan;
 use crate::token::TokenKind;
-use crate::words;
+use crate::{scan, words};
 use element_store::{Language, Name, Text};
 use linker_base::NoMemory;
 use std::alloc::Global;

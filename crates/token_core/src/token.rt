@@ -52,23 +52,3 @@ pub enum PieceKind {
     BlockNote,
     Token(TokenKind),
 }
-
-/// A piece that begins a text.
-#[derive(Clone, Copy, Debug, PartialEq, Eq)]
-pub struct Found {
-    pub kind: PieceKind,
-    /// In bytes, and at least one.
-    pub length: usize,
-}
-
-/// What the first byte of a piece tells of its form.
-#[derive(Clone, Copy, Debug, PartialEq, Eq)]
-pub enum ByteClass {
-    Blank,
-    Letter,
-    Digit,
-    NameQuote,
-    TextQuote,
-    Slash,
-    Other,
-}

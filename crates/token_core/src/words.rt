@@ -7,11 +7,13 @@ ghost use Rattle.token_core.specs.Words.{parted, place_in, signs, words};
 use element_store::Language;
 
 /// The signs of both languages.
-pub static SIGNS: &[u8] = b"{ } [ ] ( ) < > ; , . .. : :: :> :>> ::> = == != === !== <= >= + - * ** / % & | ~ ^ @ @@ \
+pub static SIGNS: &[u8] =
+    b"{ } [ ] ( ) < > ; , . .. : :: :> :>> ::> = == != === !== <= >= + - * ** / % & | ~ ^ @ @@ \
     # $ ? ?? -> => :=";
 
 /// The reserved words of SysML.
-pub static SYSML_WORDS: &[u8] = b"about abstract accept action actor after alias all allocate allocation analysis and as \
+pub static SYSML_WORDS: &[u8] =
+    b"about abstract accept action actor after alias all allocate allocation analysis and as \
     assert assign assume at attribute bind binding by calc case comment concern connect \
     connection constant constraint crosses decide def default defined dependency derived do \
     doc else end entry enum event exhibit exit expose false filter first flow for fork frame \
@@ -24,7 +26,8 @@ pub static SYSML_WORDS: &[u8] = b"about abstract accept action actor after alias
     verification verify via view viewpoint when while xor";
 
 /// The reserved words of KerML.
-pub static KERML_WORDS: &[u8] = b"about abstract alias all and as assoc behavior binding bool by chains class classifier \
+pub static KERML_WORDS: &[u8] =
+    b"about abstract alias all and as assoc behavior binding bool by chains class classifier \
     comment composite conjugate conjugates conjugation connector const crosses datatype \
     default dependency derived differences disjoining disjoint doc else end expr false \
     feature featured featuring filter first flow for from function hastype if implies import \
@@ -39,7 +42,8 @@ fn place_of(list: &[u8], bytes: &[u8]) -> Option<usize>
     ensures value { result ≡ place_in (parted list.now) bytes.now }
     ensures within { IfSome result (λ place. place < length (parted list.now)) }
 {
-    list.split(|byte| *byte == b' ').position(|word| word == bytes)
+    list.split(|byte| *byte == b' ')
+        .position(|word| word == bytes)
 }
 
 /// The number of these bytes in a list of few words.

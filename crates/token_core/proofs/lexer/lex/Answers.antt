@@ -1,9 +1,9 @@
-use Rattle.std.proofs.Common.{◌≡◌, ◌+◌, ◌<◌, ◌^◌, ◌≤◌, ◌++◌, length, length-drop, ℕ, ◌-◌, List, [], drop, take, arith, ap, sym, ◌∙◌, subst}
-use Rattle.std.specs.Prelude.{Option, Some, None, IsUtf8}
+use Rattle.std.proofs.Common.{◌≡◌, ◌+◌, length-drop, List, drop, arith, ap, sym, ◌∙◌, subst}
+use Rattle.std.specs.Prelude.{Some}
 use Rattle.token_core.specs.declared.token.Token.{Token}
-use Rattle.token_core.specs.Run.{IsCutTo}
+use Rattle.token_core.proofs.Cuts.{IsCutTo}
 use Rattle.token_core.specs.Scan.{found}
-use Rattle.token_core.specs.Lex.{token_at, too_deep}
+use Rattle.token_core.specs.Lex.{too_deep}
 use Rattle.token_core.proofs.Cuts.{rest_is, right_piece, run_more, run_whole, run_stops, run_empty}
 use Rattle.token_core.proofs.lexer.lex.Goals as goal
 
@@ -44,7 +44,7 @@ loop-at-preserved c =
     record {
       within = omega (arith, r.within, length-drop c.loop-at.at c.args.text.now);
       cut =
-        subst (λ (ts : List Token). IsCutTo c.args.language c.args.text.now (c.loop-at.at + c.in-Some.found.length) ts) (sym c.in-Ok.ensures) (
+          subst (λ (ts : List Token). IsCutTo c.args.language c.args.text.now (c.loop-at.at + c.in-Some.found.length) ts) (sym c.in-Ok.ensures) (
           run_more c.args.language c.args.text.now c.loop-at.at c.loop-at.tokens c.in-Some.found c.loop-at.invariant.cut h);
     }
 

@@ -1,8 +1,6 @@
-use Rattle.std.proofs.Common.{ℕ, length, ◌-◌, ◌≡◌, ◌≤◌, drop, List}
-use Rattle.std.specs.Prelude.{IsUtf8}
-use Rattle.token_core.specs.Lex.{Piece, Cut, tokens_from}
+use Rattle.std.proofs.Common.{length, ◌-◌, ◌≤◌}
 use Rattle.token_core.proofs.lexer.lex.Given as goal
-use Rattle.token_core.specs.Run.{IsCutTo}
+use Rattle.token_core.proofs.Cuts.{IsCutTo}
 
 abbrev pub invariant-loop-at : goal.invariant-loop-at
 invariant-loop-at l = record {

@@ -1,4 +1,4 @@
-use Rattle.std.proofs.Common.{◌≡◌, ◌<◌, ◌≤◌, ℕ, arith}
+use Rattle.std.proofs.Common.{arith}
 use Rattle.token_core.proofs.Numbers.{number_more}
 use Rattle.token_core.proofs.reading.number_of.Goals as goal
 

@@ -1,4 +1,4 @@
-use Rattle.std.proofs.Common.{length, ◌≡◌, drop, ◌+◌}
+use Rattle.std.proofs.Common.{◌≡◌, drop, ◌+◌}
 use Rattle.std.specs.Prelude.{option_map, false}
 use Rattle.token_core.specs.Scan.{close_end}
 use Rattle.token_core.proofs.scan.close_length.Given as goal

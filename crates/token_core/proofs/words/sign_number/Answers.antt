@@ -1,4 +1,4 @@
-use Rattle.std.proofs.Common.{rules, ◌≡◌, ◌<◌, ℕ, length, lit<, subst, sym}
+use Rattle.std.proofs.Common.{◌<◌, lit<, subst, sym}
 use Rattle.token_core.specs.Words.{signs}
 use Rattle.token_core.proofs.Places.{sign_count}
 use Rattle.token_core.proofs.words.sign_number.Goals as goal
