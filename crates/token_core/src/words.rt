@@ -2,7 +2,7 @@
 //! single spaces. A sign or word is told by its place in its list, from 0 on.
 
 ghost use Rattle.std.specs.Prelude.{◌≡◌, ◌<◌, length, IfSome};
-ghost use Rattle.token_core.specs.Words.{parted, place_in, signs, words};
+ghost use Rattle.token_core.specs.Words.{is_word_form, parted, place_in, signs, words};
 
 use element_store::Language;
 
@@ -62,10 +62,20 @@ pub fn sign_number(bytes: &[u8]) -> Option<u8>
     number_in(SIGNS, bytes)
 }
 
+/// Whether they are lowercase letters alone, as in every reserved word. It spares many names the search.
+fn may_be_reserved(bytes: &[u8]) -> bool
+    ensures { result ≡ is_word_form bytes.now }
+{
+    bytes.iter().all(|byte| byte.is_ascii_lowercase())
+}
+
 /// The number of the language's reserved word that is spelt so.
 pub fn word_number(language: Language, bytes: &[u8]) -> Option<u8>
     ensures { result ≡ place_in (words language) bytes.now }
 {
+    if !may_be_reserved(bytes) {
+        return None;
+    }
     match language {
         Language::Kerml => number_in(KERML_WORDS, bytes),
         Language::Sysml => number_in(SYSML_WORDS, bytes),
