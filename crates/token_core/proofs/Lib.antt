@@ -1,0 +1,13 @@
+pub mod Runs
+pub mod Places
+pub mod Signs
+pub mod Found
+pub mod Right
+pub mod Cuts
+pub mod OneLexing
+pub mod Numbers
+pub mod Characters
+pub mod Spellings
+pub mod Meanings
+pub mod Tokens
+pub mod Examples

@@ -1,0 +1,9 @@
+pub mod Bytes
+pub mod Words
+pub mod Pieces
+pub mod Lex
+pub mod Scan
+pub mod Laws
+pub mod Reading
+pub mod Spelling
+pub mod Terminals

@@ -1,0 +1,49 @@
+-- What a token of a text stands for.
+use Rattle.std.specs.Prelude.{◌≡◌, ℕ, ◌+◌, ◌-◌, ◌*◌, ◌≤◌, nat_le, Bool, true, false, not, ◌==◌, ◌&&◌, ◌||◌, cond, List, [], ◌∷◌, length, drop, slice_range, IsUtf8}
+use Rattle.element_store.specs.declared.outcome.Language.{Language}
+use Rattle.token_core.specs.declared.token.TokenKind.{TokenKind}
+use Rattle.token_core.specs.declared.token.PieceKind.TheVariants.{Token as Kept}
+use Rattle.token_core.specs.declared.token.Token.{Token}
+use Rattle.token_core.specs.Bytes.{IsRun, escape_meaning}
+use Rattle.token_core.specs.Pieces.{IsPiece}
+
+abbrev pub bytes_of : List ℕ → Token → List ℕ
+bytes_of text t = slice_range text t.from t.upto
+
+-- a token of this kind stands in the text, which is UTF-8
+pub record IsTokenOf (kind : TokenKind) (text : List ℕ) (t : Token) : Type 0 where
+  pub utf8 : IsUtf8 text
+  pub ordered : t.from ≤ t.upto
+  pub within : t.upto ≤ length text
+  pub same : t.kind ≡ kind
+  pub language : Language
+  pub piece : IsPiece language (Kept kind) (bytes_of text t) (drop t.upto text)
+
+-- the bytes up to the closing quote, each escape read as the byte for which it stands; `escaped` where a backslash stands before the bytes
+abbrev pub decoded : ℕ → Bool → List ℕ → List ℕ
+decoded quote escaped [] = []
+decoded quote true (b ∷ bs) = escape_meaning b ∷ decoded quote false bs
+decoded quote false (b ∷ bs) = cond (b == quote) [] (cond (b == 92) (decoded quote true bs) (b ∷ decoded quote false bs))
+
+-- a quoted name stands for what its quotes enclose, a basic name for itself
+abbrev pub name_meaning : List ℕ → List ℕ
+name_meaning [] = []
+name_meaning (b ∷ bs) = cond (b == 39) (decoded 39 false bs) (b ∷ bs)
+
+abbrev pub string_meaning : List ℕ → List ℕ
+string_meaning [] = []
+string_meaning (b ∷ bs) = decoded 34 false bs
+
+-- the number for which decimal digits stand after those of n
+abbrev pub number_from : ℕ → List ℕ → ℕ
+number_from n [] = n
+number_from n (b ∷ bs) = number_from (n * 10 + (b - 48)) bs
+
+-- may stand between quotes, as it is or by an escape
+abbrev pub is_spellable : ℕ → Bool
+is_spellable b = not (b == 127) && (nat_le 32 b || ((b == 8) || ((b == 9) || ((b == 10) || (b == 12)))))
+
+-- a name or a text that quotes can enclose
+pub record IsSpellable (bytes : List ℕ) : Type 0 where
+  pub utf8 : IsUtf8 bytes
+  pub each : IsRun is_spellable bytes
