@@ -4,3 +4,8 @@ pub mod EngineState
 pub mod Least
 pub mod Rounds
 pub mod Answers
+pub mod Kept
+pub mod Computation
+pub mod Gather
+pub mod Computed
+pub mod Search
