@@ -58,27 +58,27 @@ module _ {K : Type 0} (eq : K → K → Bool) (exact : IsExact eq) where
   once_within : (ks : List K) (q : K) → IsMember (each_once eq ks) q → IsMember ks q
   once_within [] q i = i
   once_within (k ∷ ks) q i = elim (bool_cases (list_any (eq k) ks)) [
-      | inl a ↦ inr (once_within ks q (rw a at i))
-      | inr b ↦ let j : IsMember (k ∷ each_once eq ks) q = rw b at i in elim j [ inl e ↦ inl e | inr h ↦ inr (once_within ks q h) ]
-    ]
+    | inl a ↦ inr (once_within ks q (rw a at i))
+    | inr b ↦ let j : IsMember (k ∷ each_once eq ks) q = rw b at i in elim j [ inl e ↦ inl e | inr h ↦ inr (once_within ks q h) ]
+  ]
 
   within_once : (ks : List K) (q : K) → IsMember ks q → IsMember (each_once eq ks) q
   within_once [] q i = i
   within_once (k ∷ ks) q (inl e) = elim (bool_cases (list_any (eq k) ks)) [
-      | inl a ↦ rw a (within_once ks q (subst (IsMember ks) e (test_member eq exact ks k a)))
-      | inr b ↦ rw b (inl e)
-    ]
+    | inl a ↦ rw a (within_once ks q (subst (IsMember ks) e (test_member eq exact ks k a)))
+    | inr b ↦ rw b (inl e)
+  ]
   within_once (k ∷ ks) q (inr h) = elim (bool_cases (list_any (eq k) ks)) [
-      | inl a ↦ rw a (within_once ks q h)
-      | inr b ↦ rw b (inr (within_once ks q h))
-    ]
+    | inl a ↦ rw a (within_once ks q h)
+    | inr b ↦ rw b (inr (within_once ks q h))
+  ]
 
   once_once : (ks : List K) → IsEachOnce (each_once eq ks)
   once_once [] = tt
   once_once (k ∷ ks) = elim (bool_cases (list_any (eq k) ks)) [
-      | inl a ↦ rw a (once_once ks)
-      | inr b ↦ rw b ((λ i. let bad : false ≡ true = sym b ∙ member_test eq exact ks k (once_within ks k i) in cc), once_once ks)
-    ]
+    | inl a ↦ rw a (once_once ks)
+    | inr b ↦ rw b ((λ i. let bad : false ≡ true = sym b ∙ member_test eq exact ks k (once_within ks k i) in cc), once_once ks)
+  ]
 
   pub each_once_is_order : IsOrder (each_once eq)
   each_once_is_order = record { same = λ ks. record { left = once_within ks; right = within_once ks }; once = once_once }

@@ -2,6 +2,7 @@ pub mod LeastLaws
 pub mod RoundsLaws
 pub mod KeptLaws
 pub mod ComputationLaws
+pub mod LoopLaws
 pub mod ComputedLaws
 pub mod PartLaws
 pub mod GatherLaws

@@ -55,6 +55,11 @@ join_step (Done xs) (Waits ks) = Waits ks
 join_step (Waits ks) (Done ys) = Waits ks
 join_step (Waits ks) (Waits ls) = Waits (ks ++ ls)
 
+-- what the parts of one stage gave so far: what they found, or what they wait on
+abbrev pub so_far : {K A : Type 0} → List A → List K → Step K (List A)
+so_far found [] = Done found
+so_far found (k ∷ ks) = Waits (k ∷ ks)
+
 -- A Done step looked at decided keys alone. What is waited on is open and was looked at.
 abbrev pub IsSound : {K V F A : Type 0} → Decided K V → Step K A → List (Fact K F) → Type 0
 IsSound {K} s (Done x) looks = (q : K) → IsMember looks (Key q) → s q ≡ None → ⊥

@@ -5,6 +5,7 @@
 #![tactic(auto)]
 
 mod engine;
+mod laws;
 mod ledger;
 mod looks;
 mod plain_rounds;
@@ -14,6 +15,7 @@ mod step;
 mod table;
 
 pub use engine::{Answer, Engine};
+pub use laws::kept_keys_stay;
 pub use ledger::{Counted, Ledger, Steps};
 pub use looks::{Fact, Looks};
 pub use plain_rounds::rounds;
