@@ -48,7 +48,7 @@ both_right a (Done y) q w = absurd w
 both_right (Done x) (Waits ls) q w = w
 both_right (Waits ks) (Waits ls) q w = member_right ks ls q w
 
-both_cases : {K A B : Type 0} (a : Step K A) (b : Step K B) (q : K) → WaitsOn (both_step a b) q → WaitsOn a q ⊎ WaitsOn b q
+pub both_cases : {K A B : Type 0} (a : Step K A) (b : Step K B) (q : K) → WaitsOn (both_step a b) q → WaitsOn a q ⊎ WaitsOn b q
 both_cases (Done x) (Done y) q w = absurd w
 both_cases (Done x) (Waits ls) q w = inr w
 both_cases (Waits ks) (Done y) q w = inl w

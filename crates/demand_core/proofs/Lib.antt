@@ -3,6 +3,7 @@ pub mod RoundsLaws
 pub mod KeptLaws
 pub mod ComputationLaws
 pub mod LoopLaws
+pub mod AmongLaws
 pub mod ComputedLaws
 pub mod PartLaws
 pub mod GatherLaws
