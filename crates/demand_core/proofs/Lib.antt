@@ -8,3 +8,5 @@ pub mod ComputedLaws
 pub mod PartLaws
 pub mod GatherLaws
 pub mod SearchLaws
+pub mod WalkLaws
+pub mod AlikeLaws

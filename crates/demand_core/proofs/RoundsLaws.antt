@@ -181,6 +181,11 @@ module _ {K V F : Type 0} (eq : K → K → Bool) (exact : IsExact eq) (m : Mean
       or_false true = refl
       or_false false = refl
 
+  -- what the table holds is what the least one holds
+  pub held_is_least : (entries given : List (K × V)) (k : K) (v : V) → ((q : K) → entry_of eq entries q ≡ least eq m q) → given ≡ entries → Some v ≡ entry_of eq given k → least eq m k ≡ Some v
+  held_is_least entries given k v is same held = sym (is k) ∙ ap (λ es. entry_of eq es k) (sym same) ∙ sym held
+
+  -- a decided key keeps nothing
   pub keeps_decided : (seen : List K) (cyclic : List (K × K)) (k : K) (v : V) → least eq m k ≡ Some v → KeepsOf eq m seen cyclic → KeepsOf eq m (seen ++ k ∷ []) cyclic
   keeps_decided seen cyclic k v e keeps q = keeps q ∙ sym (keeps_step seen k q ∙ here (list_any (eq q) seen))
     where

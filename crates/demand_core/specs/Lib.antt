@@ -9,3 +9,4 @@ pub mod Computation
 pub mod Gather
 pub mod Computed
 pub mod Search
+pub mod Alike

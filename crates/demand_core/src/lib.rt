@@ -15,7 +15,7 @@ mod step;
 mod table;
 
 pub use engine::{Answer, Engine};
-pub use laws::kept_keys_stay;
+pub use laws::{kept_keys_stay, waits_are_looked_at};
 pub use ledger::{Counted, Ledger, Steps};
 pub use looks::{Fact, Looks};
 pub use plain_rounds::rounds;

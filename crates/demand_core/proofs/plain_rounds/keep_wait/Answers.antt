@@ -5,14 +5,17 @@ use Rattle.demand_core.specs.Tables.{entry_of}
 use Rattle.demand_core.specs.Rounds.{KeepsOf}
 use Rattle.demand_core.specs.declared.step.Step.TheVariants.{Waits}
 use Rattle.demand_core.proofs.LeastLaws.{least_fits}
-use Rattle.demand_core.proofs.RoundsLaws.{exact_test, keeps_decided, keeps_cyclic, first_kept}
+use Rattle.demand_core.proofs.RoundsLaws.{exact_test, held_is_least, keeps_decided, keeps_cyclic, first_kept}
 use Rattle.demand_core.proofs.plain_rounds.keep_wait.Goals as goal
 
 pub returns-in-Some-clause-keeps : goal.returns-in-Some-clause-keeps
 returns-in-Some-clause-keeps g c seen keeps =
     let eq = g.K.PartialEq.eq in
-    keeps_decided eq (exact_test g.met.K.Same.exact g.met.K.Eq.laws) (g.R.Rules.meaning c.args.rules.now) (g.met.R.Rules.lawful c.args.rules.now c.requires.valid) seen c.args.engine.now.cyclic c.args.key c.in-Some.field-0.now
-    (sym (c.requires.least c.args.key) ∙ sym (c.in-Some.ensures ∙ ap (λ es. entry_of eq es c.args.key) c.table.ensures)) keeps
+    let exact = exact_test g.met.K.Same.exact g.met.K.Eq.laws in
+    let m = g.R.Rules.meaning c.args.rules.now in
+    let law = g.met.R.Rules.lawful c.args.rules.now c.requires.valid in
+    keeps_decided eq exact m law seen c.args.engine.now.cyclic c.args.key c.in-Some.field-0.now
+    (held_is_least eq exact m law c.args.engine.now.table c.table.result.now c.args.key c.in-Some.field-0.now c.requires.least c.table.ensures c.in-Some.ensures) keeps
 
 pub ask-requires-clause-fits : goal.ask-requires-clause-fits
 ask-requires-clause-fits g c q v e =
