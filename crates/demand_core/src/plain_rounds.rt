@@ -13,8 +13,12 @@ use linker_base::NoMemory;
 use std::alloc::Global;
 
 /// Decides the keys of these rules by plain rounds, each of which asks every key that is still open,
-/// until a round decides none. What is open then is cyclic, and is kept with the first key on which
-/// it waits.
+/// until a round decides none: the least table of these rules. A key that is open then is cyclic, and
+/// is asked once more, to keep the first key on which it waits.
+///
+/// `keys` are the keys of these rules, in any order. Each decided answer is the one that every
+/// consistent table has, and the key that is kept of a cyclic one is cyclic itself. The engine's
+/// `asked` is the number by which the count of `steps` rose.
 pub fn rounds<K: Same + Copy, V: Drop, F: Same, R: Rules<K, V, F>, L: Ledger>(
     alloc: Global,
     rules: &R,
