@@ -1,0 +1,12 @@
+pub mod LeastLaws
+pub mod RoundsLaws
+pub mod KeptLaws
+pub mod ComputationLaws
+pub mod LoopLaws
+pub mod AmongLaws
+pub mod ComputedLaws
+pub mod PartLaws
+pub mod GatherLaws
+pub mod SearchLaws
+pub mod WalkLaws
+pub mod AlikeLaws

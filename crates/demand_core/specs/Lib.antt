@@ -1,0 +1,12 @@
+pub mod Tables
+pub mod Rules
+pub mod EngineState
+pub mod Least
+pub mod Rounds
+pub mod Answers
+pub mod Kept
+pub mod Computation
+pub mod Gather
+pub mod Computed
+pub mod Search
+pub mod Alike
