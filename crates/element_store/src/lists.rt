@@ -8,7 +8,45 @@ use std::alloc::Global;
 use std::marker::Model;
 
 /// Elements, in order.
-pub type Elements = Listing<ElementNo>;
+#[derive(Drop)]
+pub struct Elements {
+    items: Listing<ElementNo>,
+}
+
+impl Model for Elements {
+    ghost use Rattle.std.specs.Prelude.{List};
+    ghost use Rattle.element_store.specs.declared.numbers.ElementNo.{ElementNo};
+
+    ghost Value = { List ElementNo };
+
+    ghost view = { λ l. l.items };
+}
+
+impl Elements {
+    /// An empty list, which takes no memory.
+    pub fn new(alloc: Global) -> Self
+        ensures { result ≡ [] }
+    {
+        Elements {
+            items: Listing::new(alloc),
+        }
+    }
+
+    /// Appends one element. After `NoMemory` the list is as it was.
+    pub fn push(&mut self, item: ElementNo) -> Result<(), NoMemory>
+        ensures ok { OnOk result (self.new ≡ self.old ++ item ∷ []) }
+        ensures err { OnErr result (self.new ≡ self.old) }
+    {
+        self.items.push(item)
+    }
+
+    /// Lends the elements, in order.
+    pub fn as_slice(&self) -> &[ElementNo]
+        ensures { result.now ≡ self.now }
+    {
+        self.items.as_slice()
+    }
+}
 
 /// A member or an import in the body of a namespace, by its number in the file.
 #[derive(Clone, Copy, Debug, PartialEq, Eq)]
@@ -18,7 +56,45 @@ pub enum Item {
 }
 
 /// The items of a namespace, in text order.
-pub type Items = Listing<Item>;
+#[derive(Drop)]
+pub struct Items {
+    items: Listing<Item>,
+}
+
+impl Model for Items {
+    ghost use Rattle.std.specs.Prelude.{List};
+    ghost use Rattle.element_store.specs.declared.lists.Item.{Item};
+
+    ghost Value = { List Item };
+
+    ghost view = { λ l. l.items };
+}
+
+impl Items {
+    /// An empty list, which takes no memory.
+    pub fn new(alloc: Global) -> Self
+        ensures { result ≡ [] }
+    {
+        Items {
+            items: Listing::new(alloc),
+        }
+    }
+
+    /// Appends one item. After `NoMemory` the list is as it was.
+    pub fn push(&mut self, item: Item) -> Result<(), NoMemory>
+        ensures ok { OnOk result (self.new ≡ self.old ++ item ∷ []) }
+        ensures err { OnErr result (self.new ≡ self.old) }
+    {
+        self.items.push(item)
+    }
+
+    /// Lends the items, in order.
+    pub fn as_slice(&self) -> &[Item]
+        ensures { result.now ≡ self.now }
+    {
+        self.items.as_slice()
+    }
+}
 
 /// The segments of a name, in order. Most names are short, so up to four stand in the value itself.
 #[derive(Drop)]
