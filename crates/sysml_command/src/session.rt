@@ -44,10 +44,7 @@ pub(crate) struct Session {
 
 impl Session {
     /// A session that has read nothing, over no files.
-    pub(crate) fn open<L: Ledger>(
-        alloc: Global,
-        steps: &mut Steps<L>,
-    ) -> Result<Session, NoMemory>
+    pub(crate) fn open<L: Ledger>(alloc: Global, steps: &mut Steps<L>) -> Result<Session, NoMemory>
         ensures { IfOk result (λ session. session ≡ record { reader = record { used = 0; pending = [] }; project = [] }) }
     {
         Ok(Session {
