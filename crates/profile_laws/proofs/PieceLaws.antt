@@ -134,3 +134,50 @@ longest_found bytes p e = record {
 -- where nothing is found, no piece begins
 pub nothing_found : (bytes : List ℕ) → piece_at bytes ≡ None → NoPiece bytes
 nothing_found bytes e k bs more same h = subst (Reaches bs) (ap piece_at same ∙ e) (reaches k bs more h)
+
+sign_known : (kind : TokenKind) → 0 < length (spelling_of kind) → (n : ℕ) × (piece_at (spelling_of kind) ≡ Some (record { kind = Sign kind; length = n }))
+sign_known token.Open some = (1, refl)
+sign_known token.Close some = (1, refl)
+sign_known token.Semicolon some = (1, refl)
+sign_known token.Specializes some = (2, refl)
+sign_known token.Redefines some = (3, refl)
+sign_known token.Package some = absurd (omega arith)
+sign_known token.Part some = absurd (omega arith)
+sign_known token.Def some = absurd (omega arith)
+sign_known token.Reserved some = absurd (omega arith)
+sign_known token.Name some = absurd (omega arith)
+
+-- the bytes of a piece tell its form
+piece_known : (k : PieceKind) (bs more : List ℕ) → IsPiece k bs more → (n : ℕ) × (piece_at bs ≡ Some (record { kind = k; length = n }))
+piece_known Space [] more h = absurd h
+piece_known Basic [] more h = absurd h
+piece_known (Sign kind) [] more h = absurd h
+piece_known Space (b ∷ bs) more h = (prefix_len is_space (b ∷ bs), space_found b bs (and_parts (is_space b) (list_all is_space bs) h).0)
+piece_known Basic (b ∷ bs) more h = (prefix_len is_word_byte (b ∷ bs), word_found b bs h.0)
+piece_known (Sign kind) (b ∷ bs) more h =
+    let it = sign_known kind (subst (λ (xs : List ℕ). 0 < length xs) h (omega arith)) in (it.0, ap piece_at h ∙ it.1)
+
+-- the form of what was found, if anything was
+abbrev form_found : Option Piece → PieceKind
+form_found None = Space
+form_found (Some p) = p.kind
+
+-- bytes have one form of piece
+pub one_form : (k j : PieceKind) (bs more rest : List ℕ) → IsPiece k bs more → IsPiece j bs rest → k ≡ j
+one_form k j bs more rest h i = ap form_found (sym (piece_known k bs more h).1 ∙ (piece_known j bs rest i).1)
+
+-- the longest piece is what is found
+pub longest_is_found : (k : PieceKind) (bytes more : List ℕ) → IsLongest k bytes more → piece_at (bytes ++ more) ≡ Some (record { kind = k; length = length bytes })
+longest_is_found k bytes more it = elim (option_cases (piece_at (bytes ++ more))) [
+  | inl none ↦ absurd (subst (Reaches bytes) none (reaches k bytes more it.piece))
+  | inr some ↦
+      let p = some.0 in
+      let within : p.length ≤ length (bytes ++ more) = found_within (bytes ++ more) p some.1 in
+      let far : length bytes ≤ p.length = subst (Reaches bytes) some.1 (reaches k bytes more it.piece) in
+      let whole = longest_found (bytes ++ more) p some.1 in
+      let near : length (take p.length (bytes ++ more)) ≤ length bytes = it.longest p.kind _ _ (take-append-drop p.length (bytes ++ more)) whole.piece in
+      let size : p.length ≡ length bytes = omega (arith, length-take-le p.length (bytes ++ more) within) in
+      let front : take p.length (bytes ++ more) ≡ bytes = take_at bytes more p.length (sym size) in
+      let form : p.kind ≡ k = one_form p.kind k bytes (drop p.length (bytes ++ more)) more (subst (λ xs. IsPiece p.kind xs (drop p.length (bytes ++ more))) front whole.piece) it.piece in
+      some.1 ∙ ap (λ (j : PieceKind). Some (record { kind = j; length = p.length })) form ∙ ap (λ (n : ℕ). Some (record { kind = k; length = n })) size
+]
