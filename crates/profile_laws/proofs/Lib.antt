@@ -1,2 +1,3 @@
 pub mod PieceLaws
 pub mod LexingLaws
+pub mod SyntaxLaws

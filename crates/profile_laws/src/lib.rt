@@ -6,4 +6,4 @@
 
 mod laws;
 
-pub use laws::{lexing_is_exact, longest_piece};
+pub use laws::{lexing_is_exact, longest_piece, reading_is_exact};
