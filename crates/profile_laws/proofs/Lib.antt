@@ -1,3 +1,4 @@
 pub mod PieceLaws
 pub mod LexingLaws
 pub mod SyntaxLaws
+pub mod Examples

@@ -95,34 +95,38 @@ end_found : (b : Bool) (ds : List Definition) → cond b (Some []) None ≡ Some
 end_found true ds e = (refl, some_same _ _ e)
 end_found false ds e = cc
 
+-- The tokens are those of these definitions, and the end of the body after them.
+abbrev IsBody : List ℕ → List Token → List Definition → Type 0
+IsBody text ts ds = (body : List Token) × (closing : Token) × (ts ≡ body ++ closing ∷ []) × (closing.kind ≡ token.Close) × IsDefinitions text body ds
+
+body_more : (text : List ℕ) (front more : List Token) (d : Definition) (ds : List Definition) → IsDefinition text front d → IsBody text more ds → IsBody text (front ++ more) (d ∷ ds)
+body_more text front more d ds one (body, closing, whole, close, others) =
+    (front ++ body, closing, ap (λ r. front ++ r) whole ∙ sym (append_assoc front body (closing ∷ [])), close, (front, body, refl, one, others))
+
+no_tokens : (ts : List Token) → map kind_of_token ts ≡ [] → ts ≡ []
+no_tokens [] e = refl
+no_tokens (t ∷ ts) e = cc
+
+-- the end alone is a body without definitions
+body_ended : (text : List ℕ) (ts : List Token) → map kind_of_token ts ≡ token.Close ∷ [] → IsBody text ts []
+body_ended text ts e = let x = first_token ts token.Close [] e in ([], x.0, x.2 ∙ ap (λ r. x.0 ∷ r) (no_tokens x.1 x.4), x.3, refl)
+
 -- what was read of a body is written there, up to its end
-definitions_written : (steps : ℕ) (text : List ℕ) (ts : List Token) (ds : List Definition) → definitions_within steps text ts ≡ Some ds
-    → (body : List Token) × (closing : Token) × (ts ≡ body ++ closing ∷ []) × (closing.kind ≡ token.Close) × IsDefinitions text body ds
+definitions_written : (steps : ℕ) (text : List ℕ) (ts : List Token) (ds : List Definition) → definitions_within steps text ts ≡ Some ds → IsBody text ts ds
 unfolding definitions_within
 definitions_written zero text ts ds e = cc
 definitions_written (suc steps) text ts ds e = elim (number_cases (definition_length (map kind_of_token ts))) [
   | inl none ↦
       let last = end_found (is_end (map kind_of_token ts)) ds (sym (ap (after_definition text ts (definitions_within steps text)) none) ∙ e) in
-      let x = first_token ts token.Close [] (end_kinds (map kind_of_token ts) last.0) in
-      let over : x.1 ≡ [] = no_tokens x.1 x.4 in
-      ([], x.0, x.2 ∙ ap (λ r. x.0 ∷ r) over, x.3, subst (IsDefinitions text []) last.1 refl)
+      subst (IsBody text ts) last.1 (body_ended text ts (end_kinds (map kind_of_token ts) last.0))
   | inr some ↦
       let n = some.0 in
+      let d = definition_by text ts (suc n) in
       let one = definition_written text ts n some.1 in
-      let first = definition_found (definition_by text ts (suc n)) ds (definitions_within steps text (drop (suc n) ts)) (sym (ap (after_definition text ts (definitions_within steps text)) some.1) ∙ e) in
-      let further = definitions_written steps text (drop (suc n) ts) first.0 first.1 in
-      let left : one.1 ≡ further.0 ++ further.1 ∷ [] = sym one.3 ∙ further.2 in (
-        one.0 ++ further.0,
-        further.1,
-        one.2 ∙ ap (λ r. one.0 ++ r) left ∙ sym (append_assoc one.0 further.0 (further.1 ∷ [])),
-        further.3,
-        subst (IsDefinitions text (one.0 ++ further.0)) first.2 (one.0, further.0, refl, one.4, further.4),
-      )
+      let first = definition_found d ds (definitions_within steps text (drop (suc n) ts)) (sym (ap (after_definition text ts (definitions_within steps text)) some.1) ∙ e) in
+      let further = subst (λ r. IsBody text r first.0) one.3 (definitions_written steps text (drop (suc n) ts) first.0 first.1) in
+      subst (IsBody text ts) first.2 (subst (λ r. IsBody text r (d ∷ first.0)) (sym one.2) (body_more text one.0 one.1 d first.0 one.4 further))
 ]
-  where
-    no_tokens : (rest : List Token) → map kind_of_token rest ≡ [] → rest ≡ []
-    no_tokens [] e = refl
-    no_tokens (t ∷ rest) e = cc
 
 -- A definition that tokens write is read there, whether it has a general or not.
 abbrev IsRead : List ℕ → List Token → List Token → Definition → Type 0
@@ -177,31 +181,37 @@ package_found true None f p e = cc
 package_found true (Some ds) f p e = (refl, (ds, refl, some_same _ _ e))
 package_found false o f p e = cc
 
+-- an opening and a body are a package
+package_made : (text : List ℕ) (s t u : Token) (rest : List Token) (ds : List Definition) → s.kind ≡ token.Package → t.kind ≡ token.Name → u.kind ≡ token.Open
+    → IsBody text rest ds → IsPackage text (s ∷ t ∷ u ∷ rest) (record { place = s.«from»; name = bytes_of text t; definitions = ds })
+package_made text s t u rest ds package_kind name_kind opening_kind (body, closing, whole, close, definitions) = record {
+  package_word = s;
+  name = t;
+  opening = u;
+  body = body;
+  closing = closing;
+  written = ap (λ r. s ∷ t ∷ u ∷ r) whole;
+  package_kind = package_kind;
+  name_kind = name_kind;
+  opening_kind = opening_kind;
+  closing_kind = close;
+  place_is = refl;
+  name_is = refl;
+  definitions_are = definitions;
+}
+
 -- a package that was read is written by its tokens
 package_written : (text : List ℕ) (ts : List Token) (p : Package) → package_by text ts ≡ Some p → IsPackage text ts p
 unfolding definitions_of
 package_written text ts p e =
     let found = package_found (is_opening (map kind_of_token ts)) (definitions_of text (drop 3 ts)) _ p e in
+    let ds = found.1.0 in
     let kinds = opening_kinds (map kind_of_token ts) found.0 in
     let x = three_tokens ts token.Package token.Name token.Open kinds.0 kinds.1 in
-    let body = definitions_written (suc (length (drop 3 ts))) text (drop 3 ts) found.1.0 found.1.1 in
-    let rest : x.3 ≡ body.0 ++ body.1 ∷ [] = sym (ap (drop 3) x.4) ∙ body.2 in
+    let body = subst (λ r. IsBody text r ds) (ap (drop 3) x.4) (definitions_written (suc (length (drop 3 ts))) text (drop 3 ts) ds found.1.1) in
     subst (IsPackage text ts) found.1.2
-    (record {
-      package_word = x.0;
-      name = x.1;
-      opening = x.2;
-      body = body.0;
-      closing = body.1;
-      written = x.4 ∙ ap (λ r. x.0 ∷ x.1 ∷ x.2 ∷ r) rest;
-      package_kind = x.5;
-      name_kind = x.6;
-      opening_kind = x.7;
-      closing_kind = body.3;
-      place_is = ap (λ r. (token_in r 0).«from») x.4;
-      name_is = ap (λ r. bytes_of text (token_in r 1)) x.4;
-      definitions_are = body.4;
-    })
+    (subst (λ r. IsPackage text r (record { place = (token_in r 0).«from»; name = bytes_of text (token_in r 1); definitions = ds })) (sym x.4)
+    (package_made text x.0 x.1 x.2 x.3 ds x.5 x.6 x.7 body))
 
 -- a package that tokens write is read
 package_read : (text : List ℕ) (ts : List Token) (p : Package) → IsPackage text ts p → package_by text ts ≡ Some p
