@@ -1,6 +1,6 @@
 -- Texts of the profile, and texts that aren't in it, by evaluation.
-use Rattle.std.proofs.Common.{◌≡◌, ℕ, List, [], ◌∷◌, refl}
-use Rattle.std.specs.Prelude.{Option, None, Some, codes}
+use Rattle.std.proofs.Common.{◌≡◌, [], ◌∷◌, refl}
+use Rattle.std.specs.Prelude.{None, Some, codes}
 use Rattle.first_reader.specs.Words.{is_reserved}
 use Rattle.first_reader.specs.Grammar.{definitions_within, definitions_of, package_of}
 use Rattle.first_reader.specs.Lexing.{lexed_within, lexed}

@@ -1,9 +1,9 @@
 -- A text is lexed exactly where it is a list of longest pieces.
 use Rattle.std.proofs.Common.{◌≡◌, ◌∙◌, ℕ, ◌+◌, ◌<◌, ◌≤◌, zero, suc, List, [], ◌∷◌, ◌++◌, ◌↔◌, length, take, drop, refl, sym, ap, subst, arith, inl, inr, length-append}
 use Rattle.std.specs.Prelude.{Option, None, Some}
-use Rattle.std.proofs.lemmas.List.{append_cancel_left, take-append-drop, length-take-le, take_at, drop_at}
+use Rattle.std.proofs.lemmas.List.{take-append-drop, length-take-le, take_at, drop_at}
 use Rattle.linker_base.proofs.Cases.{option_cases, some_same}
-use Rattle.first_reader.specs.Pieces.{IsPiece, IsLongest, piece_at}
+use Rattle.first_reader.specs.Pieces.{IsLongest, piece_at}
 use Rattle.first_reader.specs.Lexing.{tokens_of_piece, Lex, with_front, after_piece, lexed_within, lexed}
 use Rattle.first_reader.specs.declared.lexer.Piece.{Piece}
 use Rattle.first_reader.specs.declared.lexer.PieceKind.{PieceKind}

@@ -1,4 +1,5 @@
 pub mod PieceLaws
 pub mod LexingLaws
+pub mod WordLaws
 pub mod SyntaxLaws
 pub mod Examples

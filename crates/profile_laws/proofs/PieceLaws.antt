@@ -1,13 +1,13 @@
 -- The piece that is found at the front of bytes is the longest one.
-use Rattle.std.proofs.Common.{◌≡◌, ◌∙◌, ℕ, ◌+◌, ◌<◌, ◌≤◌, zero, suc, Bool, true, false, cond, ◌&&◌, ◌||◌, nat_eq, List, [], ◌∷◌, ◌++◌, length, take, drop, refl, sym, ap, subst, arith, inl, inr}
+use Rattle.std.proofs.Common.{◌≡◌, ◌∙◌, ℕ, ◌+◌, ◌<◌, ◌≤◌, Bool, true, false, nat_eq, List, [], ◌∷◌, ◌++◌, length, take, drop, refl, sym, ap, subst, arith, inl, inr}
 use Rattle.std.specs.Prelude.{Option, None, Some, codes}
 use Rattle.std.specs.List.{list_all, prefix_len}
 use Rattle.std.proofs.Math.Numerals.{one-add}
-use Rattle.std.proofs.lemmas.List.{take-append-drop, length-take-le, take_at, drop_at}
+use Rattle.std.proofs.lemmas.List.{take-append-drop, length-take-le, take_at}
 use Rattle.std.proofs.lemmas.List.Sums.{prefix_len-le-length}
 use Rattle.std.proofs.lemmas.Bool.{eqb-true, and_parts, and_from, or_left, cond-true, cond-false, cond_both}
 use Rattle.std.proofs.lemmas.Bool.Decides.{nat_tests}
-use Rattle.linker_base.proofs.Cases.{bool_cases, option_cases, some_same}
+use Rattle.linker_base.proofs.Cases.{bool_cases, option_cases}
 use Rattle.first_reader.specs.Pieces.{is_space, is_letter, is_word_byte, spelling_of, IsPiece, IsLongest, NoPiece, after_colon, sign_at, piece_at}
 use Rattle.first_reader.specs.declared.lexer.Piece.{Piece}
 use Rattle.first_reader.specs.declared.lexer.PieceKind.{PieceKind}

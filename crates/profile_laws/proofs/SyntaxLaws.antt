@@ -1,11 +1,10 @@
 -- A package is read exactly where the grammar's productions write it.
-use Rattle.std.proofs.Common.{◌≡◌, ◌∙◌, ℕ, ◌+◌, ◌<◌, ◌≤◌, zero, suc, Bool, true, false, cond, List, [], ◌∷◌, ◌++◌, ◌↔◌, ◌⊎◌, length, map, drop, refl, sym, ap, subst, arith, inl, inr, length-append, append_assoc}
+use Rattle.std.proofs.Common.{◌≡◌, ◌∙◌, ℕ, ◌<◌, zero, suc, Bool, true, false, cond, List, [], ◌∷◌, ◌++◌, ◌↔◌, ◌⊎◌, length, map, drop, refl, sym, ap, subst, arith, inl, inr, length-append, append_assoc}
 use Rattle.std.specs.Prelude.{Option, None, Some}
 use Rattle.std.specs.Option.{option_map}
-use Rattle.linker_base.proofs.Cases.{bool_cases, option_cases, some_same}
+use Rattle.linker_base.proofs.Cases.{option_cases, some_same}
 use Rattle.first_reader.specs.Grammar.{kind_of_token, definition_length, is_end, is_opening, bytes_of, token_in, written_by, definition_by, with_definition, after_definition, definitions_within, definitions_of, package_by, package_from, package_of}
-use Rattle.first_reader.specs.Lexing.{Lex, lexed}
-use Rattle.first_reader.specs.declared.lexer.PieceKind.{PieceKind}
+use Rattle.first_reader.specs.Lexing.{lexed}
 use Rattle.first_reader.specs.declared.lexer.Token.{Token}
 use Rattle.first_reader.specs.declared.lexer.TokenKind.{TokenKind}
 use Rattle.first_reader.specs.declared.lexer.TokenKind.TheVariants as token

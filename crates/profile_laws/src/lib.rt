@@ -6,4 +6,4 @@
 
 mod laws;
 
-pub use laws::{lexing_is_exact, longest_piece, reading_is_exact};
+pub use laws::{kinds_of_words, lexing_is_exact, longest_piece, reading_is_exact};
