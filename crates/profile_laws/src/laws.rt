@@ -1,8 +1,7 @@
-ghost use Rattle.std.specs.Prelude.{◌≡◌, ℕ, ◌≤◌, ◌↔◌, List, length, take, drop, map, codes, true, false, Some, None};
+ghost use Rattle.std.specs.Prelude.{◌≡◌, ℕ, ◌≤◌, ◌↔◌, List, length, take, drop, map, codes, Some, None};
 ghost use Rattle.first_reader.specs.Grammar.{package_of};
 ghost use Rattle.first_reader.specs.Lexing.{Lex, lexed, kind_of};
 ghost use Rattle.first_reader.specs.Pieces.{IsLongest, NoPiece, piece_at};
-ghost use Rattle.first_reader.specs.Words.{is_reserved};
 ghost use Rattle.first_reader.specs.declared.words.TheConstants.{RESERVED};
 ghost use Rattle.first_reader.specs.declared.lexer.Piece.{Piece};
 ghost use Rattle.first_reader.specs.declared.lexer.PieceKind.{PieceKind};
