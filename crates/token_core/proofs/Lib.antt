@@ -9,5 +9,5 @@ pub mod Numbers
 pub mod Characters
 pub mod Spellings
 pub mod Meanings
-pub mod Tokens
+pub mod Kept
 pub mod Examples

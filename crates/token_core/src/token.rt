@@ -1,4 +1,8 @@
-use linker_base::Listing;
+ghost use Rattle.std.specs.Prelude.{◌≡◌, ◌∷◌, ◌++◌, [], OnOk, OnErr};
+
+use linker_base::{Listing, NoMemory};
+use std::alloc::Global;
+use std::marker::Model;
 
 /// The kinds of tokens. Signs and words are numbered from 0 in the order of their lists, the words by the
 /// list of the text's language.
@@ -26,8 +30,46 @@ pub struct Token {
     pub upto: u32,
 }
 
-/// The tokens of a text, in order.
-pub type Tokens = Listing<Token>;
+/// The tokens of a text, in order. Contracts see the list of them.
+#[derive(Drop)]
+pub struct Tokens {
+    tokens: Listing<Token>,
+}
+
+impl Model for Tokens {
+    ghost use Rattle.std.specs.Prelude.{List};
+    ghost use Rattle.token_core.specs.declared.token.Token.{Token};
+
+    ghost Value = { List Token };
+
+    ghost view = { λ t. t.tokens };
+}
+
+impl Tokens {
+    /// No tokens, which takes no memory.
+    pub fn new(alloc: Global) -> Self
+        ensures { result ≡ [] }
+    {
+        Tokens {
+            tokens: Listing::new(alloc),
+        }
+    }
+
+    /// Appends one token. After `NoMemory` the list is as it was.
+    pub fn push(&mut self, item: Token) -> Result<(), NoMemory>
+        ensures ok { OnOk result (self.new ≡ self.old ++ item ∷ []) }
+        ensures err { OnErr result (self.new ≡ self.old) }
+    {
+        self.tokens.push(item)
+    }
+
+    /// Lends the tokens, in order.
+    pub fn as_slice(&self) -> &[Token]
+        ensures { result.now ≡ self.now }
+    {
+        self.tokens.as_slice()
+    }
+}
 
 /// Why a text has no tokens. The number is the place in bytes, from 0 on.
 #[derive(Clone, Copy, Debug, PartialEq, Eq)]

@@ -4,7 +4,7 @@ use Rattle.token_core.specs.declared.token.TokenKind.{TokenKind}
 use Rattle.token_core.specs.declared.token.TokenKind.TheVariants.{Name}
 use Rattle.linker_base.specs.Members.{IsMember}
 use Rattle.token_core.specs.Reading.{IsTokenOf}
-use Rattle.token_core.proofs.Tokens.{lex_token, first_member}
+use Rattle.token_core.proofs.Kept.{lex_token, first_member}
 use Rattle.token_core.proofs.tests.first_token.Goals as goal
 
 pub returns-in-len1-up : goal.returns-in-len1-up
