@@ -5,6 +5,7 @@
 #![tactic(auto)]
 
 mod engine;
+mod keys;
 mod laws;
 mod ledger;
 mod looks;
@@ -15,11 +16,12 @@ mod step;
 mod table;
 
 pub use engine::{Answer, Engine};
+pub use keys::Keys;
 pub use laws::{kept_keys_stay, waits_are_looked_at};
 pub use ledger::{Counted, Ledger, Steps};
 pub use looks::{Fact, Looks};
 pub use plain_rounds::rounds;
 pub use rules::Rules;
 pub use same::Same;
-pub use step::{Keys, Step};
+pub use step::Step;
 pub use table::Table;
