@@ -6,7 +6,7 @@ use std::marker::Model;
 
 /// A list that grows at its end. Contracts see the list of its items, in order.
 ///
-/// Every list of the linker is an alias of this type, as `Elements` is `Listing<ElementNo>`.
+/// The public lists, as those of elements or of tokens, are types over this one.
 #[derive(Drop)]
 pub struct Listing<T> {
     items: Vec<T>,
