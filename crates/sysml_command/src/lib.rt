@@ -5,6 +5,8 @@ mod program;
 mod reply;
 mod session;
 mod status;
+#[cfg(test)]
+mod tests;
 
 pub use program::run;
 pub use status::Status;
