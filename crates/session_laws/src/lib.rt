@@ -2,7 +2,7 @@
 //! what it ensures holds of the definitions alone.
 #![tactic(auto)]
 
-ghost use Rattle.std.specs.Prelude.{◌≡◌, ℕ, Bool, List};
+ghost use Rattle.std.specs.Prelude.{ℕ, Bool, List};
 ghost use Rattle.session_model.specs.Commands.{Command};
 ghost use Rattle.session_model.specs.Cut.{IsCut};
 
