@@ -1,0 +1,25 @@
+-- Worked examples: what two small scripts answer.
+use Rattle.std.specs.Fmt.{digits}
+use Rattle.std.specs.Prelude.{◌≡◌, ℕ, List, [], ◌∷◌, codes, refl}
+use Rattle.first_reader.specs.Lexing.{lexed, lexed_within}
+use Rattle.first_reader.specs.Words.{is_reserved}
+use Rattle.first_reader.specs.Grammar.{package_of, definitions_of, definitions_within}
+use Rattle.session_model.specs.Book.{ranked}
+use Rattle.session_model.specs.Commands.{Command}
+use Rattle.session_model.specs.Answers.{answers_of}
+
+-- puts this text as `a.sysml`, lists its links, and ends
+abbrev pub put_and_list : List ℕ → List Command
+put_and_list text = Command.Put (codes "a.sysml") text ∷ Command.Links (codes "a.sysml") ∷ Command.End ∷ []
+
+-- shown: a general that is defined before is linked
+pub linked_general : answers_of [] (put_and_list (codes "package P { part def A; part def B :> A; }"))
+    ≡ codes "put a.sysml elements 3 references 1\n1:39 subclass A -> linked a.sysml P::A\nlinks a.sysml 1\nend\n"
+unfolding lexed lexed_within is_reserved package_of definitions_of definitions_within ranked digits
+linked_general = refl
+
+-- shown: a general that is defined twice is ambiguous, and both places are told
+pub ambiguous_general : answers_of [] (put_and_list (codes "package P { part def A; part def A; part def B :> A; }"))
+    ≡ codes "put a.sysml elements 4 references 1\n1:51 subclass A -> ambiguous 1 a.sysml:1:13 a.sysml:1:25\nlinks a.sysml 1\nend\n"
+unfolding lexed lexed_within is_reserved package_of definitions_of definitions_within ranked digits
+ambiguous_general = refl
