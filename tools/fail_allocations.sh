@@ -22,14 +22,13 @@ while [ "$unchanged" -lt 5 ]; do
     rt try --fail-alloc "$number" -- $(cat args) < stdin > "$folder/output" 2> "$folder/errors"
     status=$?
     size=$(wc -c < "$folder/output")
-    line=$(head -n 1 "$folder/errors")
     verdict=right
     if ! cmp -s -n "$size" "$folder/output" stdout || [ "$size" -gt "$whole" ]; then
         verdict=wrong
     fi
     case $status in
         0) [ "$size" -eq "$whole" ] || verdict=wrong ;;
-        "$NO_MEMORY") [ "$line" = "no memory" ] || verdict=wrong ;;
+        "$NO_MEMORY") grep -qx "no memory" "$folder/errors" || verdict=wrong ;;
         "$NO_WORDS") [ "$size" -eq 0 ] || verdict=wrong ;;
         *) verdict=wrong ;;
     esac
