@@ -5,6 +5,8 @@
 mod command;
 mod heading;
 mod reader;
+#[cfg(test)]
+mod tests;
 
 pub use command::{Command, ReadStop};
 pub use reader::ScriptReader;
