@@ -1,4 +1,4 @@
--- Worked examples: what two small scripts answer.
+-- Worked examples: what small scripts answer.
 use Rattle.std.specs.Fmt.{digits}
 use Rattle.std.specs.Prelude.{◌≡◌, ℕ, List, [], ◌∷◌, codes, refl}
 use Rattle.first_reader.specs.Lexing.{lexed, lexed_within}
@@ -23,3 +23,22 @@ pub ambiguous_general : answers_of [] (put_and_list (codes "package P { part def
     ≡ codes "put a.sysml elements 4 references 1\n1:51 subclass A -> ambiguous 1 a.sysml:1:13 a.sysml:1:25\nlinks a.sysml 1\nend\n"
 unfolding lexed lexed_within is_reserved package_of definitions_of definitions_within ranked digits
 ambiguous_general = refl
+
+-- shown: a text outside the profile is kept, and refused at its first place
+pub bare_definition : answers_of [] (Command.Put (codes "a.sysml") (codes "part def A;") ∷ Command.Links (codes "b.sysml") ∷ Command.End ∷ [])
+    ≡ codes "put a.sysml refused 1:1 Syntax\nlinks b.sysml no file\nend\n"
+unfolding lexed lexed_within is_reserved package_of definitions_of definitions_within ranked digits
+bare_definition = refl
+
+-- shown: of two packages with one name, that of the file with the lesser name comes first, although it was put last
+pub ambiguous_packages : answers_of [] (Command.Put (codes "b.sysml") (codes "package P { }") ∷ Command.Put (codes "a.sysml") (codes "package P { }")
+        ∷ Command.Put (codes "c.sysml") (codes "package Q { part def B :> P; }") ∷ Command.Links (codes "c.sysml") ∷ [])
+    ≡ codes "put b.sysml elements 1 references 0\nput a.sysml elements 1 references 0\nput c.sysml elements 2 references 1\n1:27 subclass P -> ambiguous 1 a.sysml:1:1 b.sysml:1:1\nlinks c.sysml 1\n"
+unfolding lexed lexed_within is_reserved package_of definitions_of definitions_within ranked digits
+ambiguous_packages = refl
+
+-- shown: a part definition hides the package of the same name
+pub hiding_definition : answers_of [] (put_and_list (codes "package A { part def A; part def B :> A; }"))
+    ≡ codes "put a.sysml elements 3 references 1\n1:39 subclass A -> linked a.sysml A::A\nlinks a.sysml 1\nend\n"
+unfolding lexed lexed_within is_reserved package_of definitions_of definitions_within ranked digits
+hiding_definition = refl
