@@ -1,4 +1,5 @@
--- The model of a text of the first path: the root, its package, and the package's part definitions.
+-- The model of a text of the first path: the root, its package, and the package's part definitions; after SysML's Package,
+-- PartDefinition and Subclassification.
 use Rattle.std.specs.Prelude.{◌≡◌, ℕ, ◌+◌, List, [], ◌∷◌, ◌++◌, map, codes, Option, Some, None, refl}
 use Rattle.std.specs.Option.{option_map_or}
 use Rattle.element_store.specs.declared.outcome.Role.TheVariants.{Subclass}

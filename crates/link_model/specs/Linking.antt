@@ -1,4 +1,4 @@
--- Where a reference is looked up, and what becomes of it.
+-- Where a reference is looked up, and what becomes of it, after KerML's name resolution (8.2.3.5): Namespace::resolve.
 use Rattle.std.specs.Prelude.{ℕ, List, [], ◌∷◌, Option, Some, None, slice_get}
 use Rattle.std.specs.Option.{option_map_or}
 use Rattle.element_store.specs.declared.numbers.FileNo.{FileNo}
