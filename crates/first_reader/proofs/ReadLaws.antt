@@ -1,5 +1,5 @@
 -- Reading part definitions one after the other.
-use Rattle.std.proofs.Common.{◌≡◌, ℕ, ◌+◌, ◌<◌, ◌≤◌, zero, suc, true, false, cond, List, [], ◌∷◌, ◌++◌, length, drop, map, nat_eq, refl, sym, ◌∙◌, ap, arith, append_assoc, append-nil, length-append, length-drop, ◌⊎◌, inl, inr}
+use Rattle.std.proofs.Common.{◌≡◌, ℕ, ◌+◌, ◌<◌, ◌≤◌, zero, suc, true, false, cond, List, [], ◌∷◌, ◌++◌, length, drop, map, refl, sym, ◌∙◌, ap, arith, append_assoc, append-nil, length-append, length-drop, ◌⊎◌}
 use Rattle.std.proofs.lemmas.List.{drop-drop}
 use Rattle.std.specs.Prelude.{Option, None, Some}
 use Rattle.first_reader.specs.Grammar.{kind_of_token, definition_length, is_end, definition_by, with_definition, after_definition, definitions_within, definitions_of}

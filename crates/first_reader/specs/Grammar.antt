@@ -1,6 +1,6 @@
--- The small grammar:
+-- The small grammar, after the concrete syntax of SysML: namespaces and packages (8.2.2.5), parts (8.2.2.11).
 --   First = 'package' NAME '{' { 'part' 'def' NAME [ ':>' NAME ] ';' } '}' .
-use Rattle.std.specs.Prelude.{◌≡◌, ◌≤◌, ℕ, ◌+◌, zero, suc, Bool, true, false, cond, nat_eq, List, [], ◌∷◌, ◌++◌, map, length, take, drop, slice_range, slice_index_or, Option, Some, None}
+use Rattle.std.specs.Prelude.{ℕ, zero, suc, Bool, true, false, cond, nat_eq, List, [], ◌∷◌, map, length, drop, slice_range, slice_index_or, Option, Some, None}
 use Rattle.first_reader.specs.declared.lexer.TokenKind.{TokenKind}
 use Rattle.first_reader.specs.declared.lexer.TokenKind.TheVariants as kind
 use Rattle.std.specs.Option.{option_map}

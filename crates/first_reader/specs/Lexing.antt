@@ -1,6 +1,5 @@
--- A text cut into pieces, and its tokens.
+-- A text cut into pieces, and its tokens, after KerML's lexical structure (8.2.2).
 use Rattle.std.specs.Prelude.{◌≡◌, ◌≤◌, ℕ, ◌+◌, zero, suc, Bool, cond, List, [], ◌∷◌, ◌++◌, length, take, drop, codes, nat_eq, Option, Some, None}
-use Rattle.std.specs.Option.{option_map_or}
 use Rattle.std.specs.Cmp.Lexicographic.{pointwise}
 use Rattle.first_reader.specs.Words.{is_reserved}
 use Rattle.first_reader.specs.Pieces.{IsLongest, piece_at}

@@ -1,6 +1,6 @@
--- The model of a text of the first path: the root, its package, and the package's part definitions.
-use Rattle.std.specs.Prelude.{◌≡◌, ℕ, ◌+◌, List, [], ◌∷◌, ◌++◌, map, codes, Option, Some, None, refl}
-use Rattle.std.specs.Option.{option_map_or}
+-- The model of a text of the first path: the root, its package, and the package's part definitions; after SysML's Package,
+-- PartDefinition and Subclassification.
+use Rattle.std.specs.Prelude.{ℕ, ◌+◌, List, [], ◌∷◌, ◌++◌, map, Option, Some, None}
 use Rattle.element_store.specs.declared.outcome.Role.TheVariants.{Subclass}
 use Rattle.link_model.specs.Model.{Element, Member, Reference, Model, bare}
 use Rattle.first_reader.specs.declared.package.Written.{Written}

@@ -1,8 +1,7 @@
 -- The pieces of a text that the first path accepts, after the lexical structure of KerML: spaces, basic names and
 -- reserved words, and the signs of the small grammar. Each piece is the longest that begins at its place.
-use Rattle.std.specs.Prelude.{◌≡◌, ℕ, ◌+◌, ◌≤◌, Bool, true, false, cond, ◌&&◌, ◌||◌, nat_eq, nat_le, List, [], ◌∷◌, ◌++◌, length, codes, Option, Some, None}
+use Rattle.std.specs.Prelude.{◌≡◌, ℕ, ◌≤◌, Bool, true, cond, ◌&&◌, ◌||◌, nat_eq, nat_le, List, [], ◌∷◌, ◌++◌, length, codes, Option, Some, None}
 use Rattle.std.specs.List.{list_all, prefix_len}
-use Rattle.linker_base.specs.Members.{IsMember}
 use Rattle.first_reader.specs.declared.lexer.TokenKind.{TokenKind}
 use Rattle.first_reader.specs.declared.lexer.TokenKind.TheVariants.{Open, Close, Semicolon, Specializes, Redefines}
 use Rattle.first_reader.specs.declared.lexer.PieceKind.{PieceKind}

@@ -1,4 +1,4 @@
--- The reserved words of SysML.
+-- The reserved words of SysML (8.2.2.1.2).
 use Rattle.std.specs.Prelude.{ℕ, Bool, List, nat_eq}
 use Rattle.std.specs.List.{list_any}
 use Rattle.std.specs.Cmp.Lexicographic.{pointwise}

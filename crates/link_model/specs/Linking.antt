@@ -1,12 +1,10 @@
--- Where a reference is looked up, and what becomes of it.
-use Rattle.std.specs.Prelude.{ℕ, List, [], ◌∷◌, Option, Some, None, slice_get}
+-- Where a reference is looked up, and what becomes of it, after KerML's name resolution (8.2.3.5): Namespace::resolve.
+use Rattle.std.specs.Prelude.{ℕ, List, [], ◌∷◌, Option}
 use Rattle.std.specs.Option.{option_map_or}
 use Rattle.element_store.specs.declared.numbers.FileNo.{FileNo}
 use Rattle.element_store.specs.declared.outcome.Outcome.{Outcome}
 use Rattle.element_store.specs.declared.outcome.Outcome.TheVariants.{Absent}
-use Rattle.element_store.specs.declared.outcome.Role.{Role}
-use Rattle.element_store.specs.declared.outcome.Role.TheVariants.{Subclass}
-use Rattle.link_model.specs.Model.{Element, Model, Reference, Files}
+use Rattle.link_model.specs.Model.{Element, Reference, Files}
 use Rattle.link_model.specs.Tiers.{elements_of, owner_in, lexical_tiers, deciding, pick}
 
 -- Where the first segment is looked up: the general of a subclassification in the namespace that owns the type.

@@ -1,6 +1,6 @@
 -- The model of a file, as far as names go, after the abstract syntax of KerML, Root layer: namespaces own
 -- members, a membership gives an element its name there.
-use Rattle.std.specs.Prelude.{ℕ, List, [], ◌∷◌, Option, Some, None}
+use Rattle.std.specs.Prelude.{ℕ, List, [], ◌∷◌, Option, None}
 use Rattle.element_store.specs.declared.numbers.FileNo.{FileNo}
 use Rattle.element_store.specs.declared.outcome.Role.{Role}
 

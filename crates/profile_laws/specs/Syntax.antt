@@ -1,4 +1,5 @@
--- The concrete syntax of the small grammar, by its productions: which tokens each of them writes, and what they mean.
+-- The concrete syntax of the small grammar, by its productions: which tokens each of them writes, and what they mean. After
+-- SysML's Package (8.2.2.5) and PartDefinition (8.2.2.11).
 --   Package = 'package' NAME '{' Definition* '}'
 --   Definition = 'part' 'def' NAME ( ':>' NAME )? ';'
 use Rattle.std.specs.Prelude.{◌≡◌, ℕ, List, [], ◌∷◌, ◌++◌, Option, Some, None}

@@ -1,4 +1,4 @@
--- Classes of bytes.
+-- Classes of bytes, after KerML's lexical structure: white space (8.2.2.1), names (8.2.2.3), string values (8.2.2.5).
 use Rattle.std.specs.Prelude.{◌≡◌, ℕ, nat_le, Bool, true, not, ◌==◌, ◌&&◌, ◌||◌, cond, List, [], ◌∷◌}
 
 abbrev pub is_between : ℕ → ℕ → ℕ → Bool

@@ -1,4 +1,5 @@
--- A text as the pieces that it is made of, its tokens, and the faults of a text that has none.
+-- A text as the pieces that it is made of, its tokens, and the faults of a text that has none; after KerML's lexical structure
+-- (8.2.2).
 use Rattle.std.specs.Prelude.{◌≡◌, ℕ, ◌+◌, ◌-◌, ◌<◌, ◌==◌, ◌&&◌, ◌||◌, Bool, false, cond, List, [], ◌∷◌, ◌++◌, length, Option, Some, None, Result, Ok, Err, IsUtf8}
 use Rattle.std.specs.Str.{IsValidUpTo}
 use Rattle.element_store.specs.declared.outcome.Language.{Language}

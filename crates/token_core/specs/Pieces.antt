@@ -1,4 +1,5 @@
--- The forms of a piece of text.
+-- The forms of a piece of text, after KerML's lexical structure: notes and comments (8.2.2.2), names (8.2.2.3), numeric values
+-- (8.2.2.4), string values (8.2.2.5), reserved words (8.2.2.6), symbols (8.2.2.7).
 use Rattle.std.specs.Prelude.{◌≡◌, ◌⊎◌, ℕ, ◌≤◌, Bool, true, false, List, [], ◌∷◌, ◌++◌, length, Some, None}
 use Rattle.element_store.specs.declared.outcome.Language.{Language}
 use Rattle.token_core.specs.declared.token.TokenKind.TheVariants.{Name, Integer, Quote, Comment, Sign, Word}

@@ -1,4 +1,4 @@
--- What a token of a text stands for.
+-- What a token of a text stands for, after KerML's names (8.2.2.3), numeric values (8.2.2.4) and string values (8.2.2.5).
 use Rattle.std.specs.Prelude.{◌≡◌, ℕ, ◌+◌, ◌-◌, ◌*◌, ◌≤◌, nat_le, Bool, true, false, not, ◌==◌, ◌&&◌, ◌||◌, cond, List, [], ◌∷◌, length, drop, slice_range, IsUtf8}
 use Rattle.element_store.specs.declared.outcome.Language.{Language}
 use Rattle.token_core.specs.declared.token.TokenKind.{TokenKind}

@@ -1,4 +1,4 @@
--- The signs and the reserved words as lists.
+-- The signs and the reserved words as lists: KerML's reserved words (8.2.2.6) and symbols (8.2.2.7), SysML's (8.2.2.1.2).
 use Rattle.std.specs.Prelude.{ℕ, ◌==◌, ◌&&◌, nat_le, Bool, Option, List}
 use Rattle.std.specs.List.{list_all, slice_split, position}
 use Rattle.std.specs.Str.{bytes_eq}

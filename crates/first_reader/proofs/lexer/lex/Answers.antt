@@ -1,5 +1,5 @@
 -- The tokens so far, and the lexing of what is left.
-use Rattle.std.proofs.Common.{◌≡◌, List, ℕ, ◌<◌, ◌≤◌, ◌++◌, ◌+◌, length, take, Some, None, sym, ◌∙◌, subst, arith}
+use Rattle.std.proofs.Common.{◌≡◌, List, ℕ, ◌≤◌, ◌++◌, ◌+◌, length, take, Some, None, sym, ◌∙◌, subst, arith}
 use Rattle.first_reader.specs.Pieces.{piece_at}
 use Rattle.first_reader.specs.Lexing.{tokens_of_piece}
 use Rattle.first_reader.proofs.LexLaws.{IsLexing, rest_is, lexing_more, lexing_refused, lexing_ended}

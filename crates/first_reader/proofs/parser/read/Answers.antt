@@ -1,5 +1,5 @@
 -- A text is read by its tokens.
-use Rattle.std.proofs.Common.{◌≡◌, List, Option, Some, sym, ◌∙◌, ap, subst}
+use Rattle.std.proofs.Common.{◌≡◌, List, Option, sym, ◌∙◌, ap, subst}
 use Rattle.std.specs.Result.{IfOk}
 use Rattle.first_reader.specs.Grammar.{package_by, package_from, package_of}
 use Rattle.first_reader.specs.declared.lexer.Token.{Token}

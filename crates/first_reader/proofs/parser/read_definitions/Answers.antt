@@ -1,5 +1,5 @@
 -- The definitions so far, and the reading of what is left.
-use Rattle.std.proofs.Common.{◌≡◌, ◌≤◌, ◌<◌, ◌+◌, ◌++◌, ◌∷◌, [], List, ℕ, length, map, sym, ◌∙◌, ap, subst, refl, true, false, arith}
+use Rattle.std.proofs.Common.{◌≡◌, ◌≤◌, ◌+◌, ◌++◌, ◌∷◌, [], List, length, map, sym, ◌∙◌, ap, subst, true, false, arith}
 use Rattle.first_reader.specs.Grammar.{kind_of_token, definition_length, is_end, definition_by}
 use Rattle.first_reader.specs.declared.lexer.Token.{Token}
 use Rattle.first_reader.proofs.LexLaws.{rest_is}

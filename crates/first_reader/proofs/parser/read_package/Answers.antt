@@ -1,5 +1,5 @@
 -- A package is read by its opening, its name and its definitions.
-use Rattle.std.proofs.Common.{◌≡◌, List, Some, None, sym, ◌∙◌, ap, subst, refl, All}
+use Rattle.std.proofs.Common.{◌≡◌, List, Some, None, sym, ◌∙◌, subst, refl, All}
 use Rattle.std.proofs.lemmas.List.Elements.{All-drop}
 use Rattle.first_reader.specs.Lexing.{IsWithin}
 use Rattle.first_reader.specs.Grammar.{definitions_of}
