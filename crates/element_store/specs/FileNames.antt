@@ -1,4 +1,4 @@
--- The names of files: the NAME of a script.
+-- The names of files, and the NAME of a script.
 use Rattle.std.specs.Prelude.{◌≡◌, ℕ, Bool, true, false, ◌&&◌, ◌||◌, not, nat_eq, nat_le, List, [], ◌∷◌, length, codes, refl}
 use Rattle.std.specs.List.{list_all, ends_with}
 
@@ -19,16 +19,35 @@ is_first_byte (b ∷ bs) = not (nat_eq b 45)
 abbrev pub has_name_length : List ℕ → Bool
 has_name_length bs = nat_le 7 (length bs) && nat_le (length bs) 200
 
--- the bytes are a NAME
+-- the bytes are the name of a file, of either language
 abbrev pub is_file_name : List ℕ → Bool
-is_file_name bs = has_name_length bs && is_first_byte bs && list_all is_name_byte bs && ends_with nat_eq bs (codes ".sysml")
+is_file_name bs = has_name_length bs && is_first_byte bs && list_all is_name_byte bs && (ends_with nat_eq bs (codes ".sysml") || ends_with nat_eq bs (codes ".kerml"))
 
--- shown: the shortest name, and three that are none
+-- the bytes are a NAME of a script: the name of a SysML file
+abbrev pub is_sysml_name : List ℕ → Bool
+is_sysml_name bs = has_name_length bs && is_first_byte bs && list_all is_name_byte bs && ends_with nat_eq bs (codes ".sysml")
+
+-- shown: the shortest names, of which one is no NAME of a script, and what is the name of no file
 pub shortest_name : is_file_name (codes "a.sysml") ≡ true
 shortest_name = refl
 
+pub shortest_kerml_name : is_file_name (codes "a.kerml") ≡ true
+shortest_kerml_name = refl
+
+pub script_names_sysml : is_sysml_name (codes "a.sysml") ≡ true
+script_names_sysml = refl
+
+pub script_names_no_kerml : is_sysml_name (codes "a.kerml") ≡ false
+script_names_no_kerml = refl
+
 pub short_of_a_byte : is_file_name (codes ".sysml") ≡ false
 short_of_a_byte = refl
+
+pub kerml_short_of_a_byte : is_file_name (codes ".kerml") ≡ false
+kerml_short_of_a_byte = refl
+
+pub past_its_ending : is_file_name (codes "a.kermll") ≡ false
+past_its_ending = refl
 
 pub with_a_space : is_file_name (codes "a b.sysml") ≡ false
 with_a_space = refl

@@ -1,4 +1,4 @@
-ghost use Rattle.std.specs.Prelude.{◌≡◌, ◌↔◌, nat_eq, IfOk, OnOk, true, false, codes};
+ghost use Rattle.std.specs.Prelude.{◌≡◌, ◌↔◌, ◌||◌, nat_eq, IfOk, OnOk, true, false, codes};
 ghost use Rattle.std.specs.List.{list_all, ends_with};
 ghost use Rattle.std.specs.Cmp;
 ghost use Rattle.std.specs.Cmp.Lexicographic.{pointwise};
@@ -8,6 +8,7 @@ ghost use Rattle.std.proofs.Common.{rules};
 ghost use Rattle.std.proofs.lemmas.Cmp.{nat_list_eq_equiv};
 ghost use Rattle.element_store.specs.FileNames.{is_name_byte, is_first_byte, has_name_length, is_file_name};
 
+use crate::outcome::Language;
 use std::alloc::Global;
 use std::hash::{Hash, Hasher};
 use std::marker::Model;
@@ -15,14 +16,14 @@ use std::marker::Model;
 /// Why bytes are no name of a file.
 #[derive(Clone, Copy, Debug, PartialEq, Eq)]
 pub enum NameFault {
-    /// The bytes aren't a NAME.
+    /// The bytes aren't the name of a file.
     Bad,
     /// Want of memory.
     NoMemory,
 }
 
 /// The name of a file: 7 to 200 bytes of ASCII letters, digits, `_`, `-`, `.` and `/` that don't
-/// begin with `-` and end with `.sysml`. Contracts see its bytes.
+/// begin with `-` and end with `.sysml` or `.kerml`. Contracts see its bytes.
 #[derive(Drop)]
 pub struct FileName {
     bytes: Vec<u8>,
@@ -66,10 +67,22 @@ fn all_in_name(bytes: &[u8]) -> bool
     bytes.iter().all(|byte| is_in_name(*byte))
 }
 
-fn ends_name(bytes: &[u8]) -> bool
+fn ends_sysml(bytes: &[u8]) -> bool
     ensures { result ≡ ends_with nat_eq bytes.now (codes ".sysml") }
 {
     bytes.ends_with(b".sysml")
+}
+
+fn ends_kerml(bytes: &[u8]) -> bool
+    ensures { result ≡ ends_with nat_eq bytes.now (codes ".kerml") }
+{
+    bytes.ends_with(b".kerml")
+}
+
+fn ends_name(bytes: &[u8]) -> bool
+    ensures { result ≡ (ends_with nat_eq bytes.now (codes ".sysml") || ends_with nat_eq bytes.now (codes ".kerml")) }
+{
+    ends_sysml(bytes) || ends_kerml(bytes)
 }
 
 fn is_name(bytes: &[u8]) -> bool
@@ -79,7 +92,7 @@ fn is_name(bytes: &[u8]) -> bool
 }
 
 impl FileName {
-    /// Reads a name. `Bad` comes exactly where the bytes aren't a NAME.
+    /// Reads a name. `Bad` comes exactly where the bytes aren't the name of a file.
     pub fn read(alloc: Global, bytes: &[u8]) -> Result<FileName, NameFault>
         ensures read { IfOk result (λ name. name ≡ bytes.now) }
         ensures good { OnOk result (is_file_name bytes.now ≡ true) }
@@ -94,12 +107,23 @@ impl FileName {
         }
     }
 
-    /// Lends the bytes, which are a NAME.
+    /// Lends the bytes, which are the name of a file.
     pub fn bytes(&self) -> &[u8]
         ensures lent { result.now ≡ self.now }
         ensures name { is_file_name self.now ≡ true }
     {
         &self.bytes
+    }
+
+    /// The language in which the file is written: SysML exactly where its name ends with `.sysml`.
+    pub fn language(&self) -> Language
+        ensures { (result ≡ Language.Sysml) ↔ (ends_with nat_eq self.now (codes ".sysml") ≡ true) }
+    {
+        if ends_sysml(&self.bytes) {
+            Language::Sysml
+        } else {
+            Language::Kerml
+        }
     }
 }
 
@@ -129,7 +153,7 @@ impl Hash for FileName {
 
 #[cfg(test)]
 mod tests {
-    use super::{FileName, NameFault};
+    use super::{FileName, Language, NameFault};
 
     #[test]
     fn names_are_read_and_others_refused(rt: HostRuntime) {
@@ -147,6 +171,37 @@ mod tests {
         match FileName::read(rt.alloc(), b"a.sysml") {
             Ok(name) => assert!(rt; name.bytes() == b"a.sysml".as_slice()),
             Err(_) => assert!(rt; false),
+        }
+    }
+
+    #[test]
+    fn the_ending_says_the_language(rt: HostRuntime) {
+        let cases = [
+            (b"a.sysml".as_slice(), Language::Sysml),
+            (b"a.kerml", Language::Kerml),
+            (b"a.kerml.sysml", Language::Sysml),
+            (b"a.sysml.kerml", Language::Kerml),
+        ];
+        for (bytes, want) in cases {
+            let Ok(name) = FileName::read(rt.alloc(), bytes) else {
+                panic!(rt; "{bytes:?}")
+            };
+            assert!(rt; name.bytes() == bytes);
+            assert!(rt; name.language() == want, "{bytes:?}");
+        }
+    }
+
+    #[test]
+    fn other_endings_are_refused(rt: HostRuntime) {
+        for bytes in [
+            b".kerml".as_slice(),
+            b"a.kermll",
+            b"a.kerm",
+            b"aakerml",
+            b"-a.kerml",
+        ] {
+            let fault = FileName::read(rt.alloc(), bytes).err();
+            assert!(rt; fault == Some(NameFault::Bad), "{bytes:?}");
         }
     }
 }

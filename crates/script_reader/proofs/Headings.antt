@@ -6,7 +6,7 @@ use Rattle.std.proofs.lemmas.List.{take-append-le}
 use Rattle.std.proofs.lemmas.Slice.Eq.{bytes_eq-Decides}
 use Rattle.std.specs.Prelude.{codes, bytes_eq, Err}
 use Rattle.std.specs.Fmt.{decimal}
-use Rattle.element_store.specs.FileNames.{is_file_name}
+use Rattle.element_store.specs.FileNames.{is_sysml_name}
 use Rattle.session_model.specs.Commands.{Command as Meant, line_of, HasForm}
 use Rattle.script_reader.specs.Lines.{IsNamed, IsHeading}
 use Rattle.script_reader.specs.declared.command.ReadStop.{ReadStop}
@@ -82,9 +82,9 @@ put_spaced words name text line =
     subst (λ xs. IsMember xs 32) named (member_right name (32 ∷ decimal (length text)) 32 (inl refl))
 
 -- no command's line begins with `links ` where no name follows
-pub links_none : (name : List ℕ) → is_file_name name ≡ false → (c : Meant) → HasForm c → line_of c ≡ codes "links " ++ name → ⊥
+pub links_none : (name : List ℕ) → is_sysml_name name ≡ false → (c : Meant) → HasForm c → line_of c ≡ codes "links " ++ name → ⊥
 links_none name bad (Meant.Put other text) form e = let h : ◌≡◌ {A = ℕ} 112 108 = cc in absurd (omega arith)
-links_none name bad (Meant.Links other) form e = let same : other ≡ name = cc in let good : is_file_name name ≡ true = subst (λ xs. is_file_name xs ≡ true) same form in cc
+links_none name bad (Meant.Links other) form e = let same : other ≡ name = cc in let good : is_sysml_name name ≡ true = subst (λ xs. is_sysml_name xs ≡ true) same form in cc
 links_none name bad Meant.End form e = let h : ◌≡◌ {A = ℕ} 101 108 = cc in absurd (omega arith)
 
 -- a line that is not `end` and begins neither with `links ` nor with `put ` is the line of no command
@@ -106,7 +106,7 @@ links_stopped name NoMemory u = tt
 pub put_stopped : (words before after : List ℕ) (stop : ReadStop) → words ≡ before ++ 32 ∷ after → (IsMember before 32 → ⊥) → IsNamed before (Err stop) → IsHeading (codes "put " ++ words) (Err stop)
 put_stopped words before after Refused parts free bad = put_none words (λ name text form e.
     let named = put_words words before after name text parts free form e in
-    let good : is_file_name before ≡ true = subst (λ xs. is_file_name xs ≡ true) named.0 form.0 in cc)
+    let good : is_sysml_name before ≡ true = subst (λ xs. is_sysml_name xs ≡ true) named.0 form.0 in cc)
 put_stopped words before after Ended parts free never = never
 put_stopped words before after ReadFault parts free never = never
 put_stopped words before after NoMemory parts free u = tt

@@ -1,7 +1,7 @@
 -- The line of a command, and the command that is meant.
 use Rattle.std.specs.Prelude.{◌≡◌, ℕ, ◌+◌, ◌<◌, ◌≤◌, true, false, List, ◌∷◌, ◌++◌, length, take, drop, codes, Option, Some, None, Result, Ok, Err}
 use Rattle.std.specs.Fmt.{decimal}
-use Rattle.element_store.specs.FileNames.{is_file_name}
+use Rattle.element_store.specs.FileNames.{is_sysml_name}
 use Rattle.linker_base.specs.Members.{IsMember}
 use Rattle.session_model.specs.Commands.{Command as Meant, line_of, HasForm}
 use Rattle.script_reader.specs.declared.command.Command.{Command}
@@ -29,16 +29,16 @@ IsByteCount digits (Some n) = (n ≤ 1048576) × (digits ≡ decimal n)
 
 -- the name that the bytes are, or that they are none
 abbrev pub IsNamed : List ℕ → Result (List ℕ) ReadStop → Type 0
-IsNamed bytes (Ok name) = (name ≡ bytes) × (is_file_name bytes ≡ true)
-IsNamed bytes (Err Refused) = is_file_name bytes ≡ false
+IsNamed bytes (Ok name) = (name ≡ bytes) × (is_sysml_name bytes ≡ true)
+IsNamed bytes (Err Refused) = is_sysml_name bytes ≡ false
 IsNamed bytes (Err Ended) = ⊥
 IsNamed bytes (Err ReadFault) = ⊥
 IsNamed bytes (Err NoMemory) = Unit {0}
 
 -- what a line says, or that it is the line of no command
 abbrev pub IsHeading : List ℕ → Result Heading ReadStop → Type 0
-IsHeading line (Ok (heading.Put name count)) = (is_file_name name ≡ true) × (count ≤ 1048576) × (line ≡ codes "put " ++ name ++ codes " " ++ decimal count)
-IsHeading line (Ok (heading.Links name)) = (is_file_name name ≡ true) × (line ≡ codes "links " ++ name)
+IsHeading line (Ok (heading.Put name count)) = (is_sysml_name name ≡ true) × (count ≤ 1048576) × (line ≡ codes "put " ++ name ++ codes " " ++ decimal count)
+IsHeading line (Ok (heading.Links name)) = (is_sysml_name name ≡ true) × (line ≡ codes "links " ++ name)
 IsHeading line (Ok heading.End) = line ≡ codes "end"
 IsHeading line (Err Refused) = (c : Meant) → HasForm c → line_of c ≡ line → ⊥
 IsHeading line (Err Ended) = ⊥

@@ -2,7 +2,7 @@ ghost use Rattle.std.specs.Prelude.{◌++◌, codes};
 ghost use Rattle.script_reader.specs.Lines.{IsPlaceOf, IsByteCount, IsNamed, IsHeading};
 
 use crate::command::ReadStop;
-use element_store::{FileName, NameFault};
+use element_store::{FileName, Language, NameFault};
 use itoa::Buffer;
 use std::alloc::Global;
 use std::str;
@@ -46,12 +46,16 @@ fn byte_count(digits: &[u8]) -> Option<usize>
     Some(count)
 }
 
-/// Reads the name of a file. `Refused` comes exactly where the bytes aren't a NAME.
+/// Reads the name of a file. `Refused` comes exactly where the bytes aren't a NAME: a script's files are
+/// SysML, since no KerML file is read yet.
 fn file_name(alloc: Global, bytes: &[u8]) -> Result<FileName, ReadStop>
     ensures { IsNamed bytes.now result }
 {
     match FileName::read(alloc, bytes) {
-        Ok(name) => Ok(name),
+        Ok(name) => match name.language() {
+            Language::Sysml => Ok(name),
+            Language::Kerml => Err(ReadStop::Refused),
+        },
         Err(NameFault::Bad) => Err(ReadStop::Refused),
         Err(NameFault::NoMemory) => Err(ReadStop::NoMemory),
     }

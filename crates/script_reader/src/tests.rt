@@ -47,6 +47,8 @@ fn other_scripts_stop_for_their_reason(rt: HostRuntime) -> Result<(), Fail> {
         (b"put a.sysml 3 \nabc\n", ReadStop::Refused),
         (b"links a.sysml", ReadStop::Ended),
         (b"links\n", ReadStop::Refused),
+        (b"links a.kerml\n", ReadStop::Refused),
+        (b"put a.kerml 3\nabc\n", ReadStop::Refused),
         (b"End\n", ReadStop::Refused),
         (b"en", ReadStop::Ended),
         (b"", ReadStop::Ended),

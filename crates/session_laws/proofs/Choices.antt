@@ -5,7 +5,7 @@ use Rattle.std.proofs.lemmas.Slice.Eq.{bytes_eq-Decides}
 use Rattle.std.specs.Fmt.{decimal}
 use Rattle.std.specs.Prelude.{codes, bytes_eq, ◌⊎◌}
 use Rattle.linker_base.specs.Members.{IsMember}
-use Rattle.element_store.specs.FileNames.{is_file_name}
+use Rattle.element_store.specs.FileNames.{is_sysml_name}
 use Rattle.session_model.specs.Commands.{Command, line_of, HasForm}
 use Rattle.script_reader.proofs.Headings.{prefix_stands, put_words, put_none, put_spaced, links_none, other_none}
 
@@ -67,14 +67,14 @@ count_within digits (suc most) = elim (count_within digits most) [
 pub record SaysPut (line : List ℕ) : Type 0 where
   pub name : List ℕ
   pub count : ℕ
-  pub named : is_file_name name ≡ true
+  pub named : is_sysml_name name ≡ true
   pub within : count ≤ 1048576
   pub stands : line ≡ codes "put " ++ name ++ codes " " ++ decimal count
 
 -- the line is a `links`
 pub record SaysLinks (line : List ℕ) : Type 0 where
   pub name : List ℕ
-  pub named : is_file_name name ≡ true
+  pub named : is_sysml_name name ≡ true
   pub stands : line ≡ codes "links " ++ name
 
 -- no command has the line
@@ -83,10 +83,10 @@ SaysNothing line = (c : Command) → HasForm c → line_of c ≡ line → ⊥
 
 -- what follows `links ` is a name, or the line is no command's
 links_or_none : (name : List ℕ) → SaysLinks (codes "links " ++ name) ⊎ SaysNothing (codes "links " ++ name)
-links_or_none name = elim (tested (is_file_name name)) [ inl good ↦ inl (record { name = name; named = good; stands = refl }) | inr bad ↦ inr (links_none name bad) ]
+links_or_none name = elim (tested (is_sysml_name name)) [ inl good ↦ inl (record { name = name; named = good; stands = refl }) | inr bad ↦ inr (links_none name bad) ]
 
 -- what follows the space says a number, or the line is no command's
-put_count : (words : List ℕ) (p : IsParted 32 words) → is_file_name p.front ≡ true → SaysPut (codes "put " ++ words) ⊎ SaysNothing (codes "put " ++ words)
+put_count : (words : List ℕ) (p : IsParted 32 words) → is_sysml_name p.front ≡ true → SaysPut (codes "put " ++ words) ⊎ SaysNothing (codes "put " ++ words)
 put_count words p good = elim (count_within p.back 1048576) [
   | inl h ↦ inl (record {
     name = p.front;
@@ -101,11 +101,11 @@ put_count words p good = elim (count_within p.back 1048576) [
 -- what follows `put ` is a name, a space and a number, or the line is no command's
 put_or_none : (words : List ℕ) → SaysPut (codes "put " ++ words) ⊎ SaysNothing (codes "put " ++ words)
 put_or_none words = elim (part_at 32 words) [
-  | inl p ↦ elim (tested (is_file_name p.front)) [
+  | inl p ↦ elim (tested (is_sysml_name p.front)) [
     | inl good ↦ put_count words p good
     | inr bad ↦ inr (put_none words (λ name text form e.
         let named = put_words words p.front p.back name text p.stands p.free form e in
-        let good : is_file_name p.front ≡ true = subst (λ xs. is_file_name xs ≡ true) named.0 form.0 in cc))
+        let good : is_sysml_name p.front ≡ true = subst (λ xs. is_sysml_name xs ≡ true) named.0 form.0 in cc))
   ]
   | inr none ↦ inr (put_none words (λ name text form e. none (put_spaced words name text e)))
 ]

@@ -4,7 +4,7 @@ use Rattle.std.proofs.lemmas.Fmt.{decimal_by_steps, decimal_injective, length-de
 use Rattle.std.specs.Fmt.{decimal}
 use Rattle.std.specs.List.{list_all, ends_with}
 use Rattle.std.specs.Prelude.{codes, nat_eq, nat_le, not, ◌&&◌}
-use Rattle.element_store.specs.FileNames.{is_file_name, is_name_byte, has_name_length, is_first_byte}
+use Rattle.element_store.specs.FileNames.{is_sysml_name, is_name_byte, has_name_length, is_first_byte}
 use Rattle.linker_base.specs.Members.{IsMember}
 use Rattle.linker_base.proofs.MemberLaws.{member_cases}
 use Rattle.session_model.specs.Commands.{Command, line_of, body_of, spelling_of, HasForm}
@@ -51,7 +51,7 @@ same_front (x ∷ xs) (y ∷ ys) front back l e =
     (cc, r.1)
 
 -- the parts of a NAME
-pub name_parts : (name : List ℕ) → is_file_name name ≡ true → (length name ≤ 200) × (list_all is_name_byte name ≡ true)
+pub name_parts : (name : List ℕ) → is_sysml_name name ≡ true → (length name ≤ 200) × (list_all is_name_byte name ≡ true)
 name_parts name e =
     let front = (both_true _ (ends_with nat_eq name (codes ".sysml")) e).0 in
     let two = both_true (has_name_length name && is_first_byte name) (list_all is_name_byte name) front in
@@ -59,10 +59,10 @@ name_parts name e =
     (grind (arith, lengths.1), two.1)
 
 -- a NAME holds neither LF nor space
-pub name_feed : (name : List ℕ) → is_file_name name ≡ true → IsMember name 10 → ⊥
+pub name_feed : (name : List ℕ) → is_sysml_name name ≡ true → IsMember name 10 → ⊥
 name_feed name e = not_among is_name_byte name 10 (name_parts name e).1 refl
 
-pub name_space : (name : List ℕ) → is_file_name name ≡ true → IsMember name 32 → ⊥
+pub name_space : (name : List ℕ) → is_sysml_name name ≡ true → IsMember name 32 → ⊥
 name_space name e = not_among is_name_byte name 32 (name_parts name e).1 refl
 
 -- these texts hold no LF
