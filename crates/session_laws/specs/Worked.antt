@@ -1,6 +1,6 @@
 -- Worked examples: what small scripts answer.
 use Rattle.std.specs.Fmt.{digits}
-use Rattle.std.specs.Prelude.{◌≡◌, ℕ, List, [], ◌∷◌, codes, refl}
+use Rattle.std.specs.Prelude.{◌≡◌, ℕ, List, [], ◌∷◌, Some, None, codes, refl}
 use Rattle.first_reader.specs.Lexing.{lexed, lexed_within}
 use Rattle.first_reader.specs.Words.{is_reserved}
 use Rattle.first_reader.specs.Grammar.{package_of, definitions_of, definitions_within}
@@ -42,3 +42,8 @@ pub hiding_definition : answers_of [] (put_and_list (codes "package A { part def
     ≡ codes "put a.sysml elements 3 references 1\n1:39 subclass A -> linked a.sysml A::A\nlinks a.sysml 1\nend\n"
 unfolding lexed lexed_within is_reserved package_of definitions_of definitions_within ranked digits
 hiding_definition = refl
+
+-- shown: a file that is gone isn't ranked, and a name comes before the longer ones that begin like it
+pub ranked_files : ranked ((codes "b.sysml", Some []) ∷ (codes "a.sysml.sysml", Some []) ∷ (codes "c.sysml", None) ∷ (codes "a.sysml", Some []) ∷ []) ≡ 3 ∷ 1 ∷ 0 ∷ []
+unfolding ranked
+ranked_files = refl

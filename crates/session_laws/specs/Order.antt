@@ -1,0 +1,35 @@
+-- The order of files and of rows: what a list in byte order is, and what it is to rise in place.
+use Rattle.std.specs.Prelude.{◌≡◌, ◌↔◌, ℕ, ◌<◌, false, List, [], ◌∷◌, Some}
+use Rattle.std.specs.Cmp.Lexicographic.{slice_cmp}
+use Rattle.std.specs.Ordering.{nat_cmp, is_lt}
+use Rattle.std.specs.declared.cmp.Ordering.TheVariants.{Less}
+use Rattle.linker_base.specs.Members.{IsMember, IsEachOnce}
+use Rattle.link_model.specs.Model.{Reference}
+use Rattle.session_model.specs.Book.{Book, name_at, text_at}
+
+-- each item is related so to all items that stand after it
+abbrev pub AreInOrder : {A : Type 0} → (A → A → Type 0) → List A → Type 0
+AreInOrder R [] = Unit {0}
+AreInOrder {A} R (x ∷ xs) = ((y : A) → IsMember xs y → R x y) × AreInOrder R xs
+
+-- in byte order, the name of the file k isn't below the name of the file j
+abbrev pub IsNotAbove : Book → ℕ → ℕ → Type 0
+IsNotAbove book j k = is_lt (slice_cmp nat_cmp (name_at book k) (name_at book j)) ≡ false
+
+-- in byte order, the name of the file j is below the name of the file k
+abbrev pub IsBelow : Book → ℕ → ℕ → Type 0
+IsBelow book j k = slice_cmp nat_cmp (name_at book j) (name_at book k) ≡ Less
+
+-- the file with the number has a text
+abbrev pub IsPresent : Book → ℕ → Type 0
+IsPresent book k = (text : List ℕ) × (text_at book k ≡ Some text)
+
+-- the numbers are those of the present files, each once, in byte order of their names
+pub record IsByteOrder (book : Book) (numbers : List ℕ) : Type 0 where
+  pub sorted : AreInOrder (IsNotAbove book) numbers
+  pub once : IsEachOnce numbers
+  pub present : (k : ℕ) → IsMember numbers k ↔ IsPresent book k
+
+-- the first reference begins before the second one
+abbrev pub BeginsBefore : Reference → Reference → Type 0
+BeginsBefore r s = r.place < s.place
