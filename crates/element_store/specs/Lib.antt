@@ -1,1 +1,12 @@
 pub mod FileNames
+pub mod Kinds
+pub mod Expressions
+pub mod Numbers
+pub mod Model
+pub mod Condition
+pub mod NameTables
+pub mod Readings
+pub mod Alike
+pub mod Stored
+pub mod BaseRules
+pub mod Worked
