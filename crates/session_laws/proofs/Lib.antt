@@ -4,3 +4,4 @@ pub mod Existence
 pub mod Orders
 pub mod Places
 pub mod Scripts
+pub mod Printed

@@ -1,9 +1,9 @@
 //! Laws of the session that stand on the words for lines and on the profile: each input has a cut, the files of a book
-//! are ranked in byte order, and references are listed in rising place. Each law is a function that does nothing: what
-//! it ensures holds of the definitions alone.
+//! are ranked in byte order, references are listed in rising place, and later places are printed later. Each law is a
+//! function that does nothing: what it ensures holds of the definitions alone.
 #![tactic(auto)]
 
-ghost use Rattle.std.specs.Prelude.{◌≡◌, ℕ, Bool, List, [], Some};
+ghost use Rattle.std.specs.Prelude.{◌≡◌, ◌<◌, ◌≤◌, ℕ, Bool, List, [], Some, length};
 ghost use Rattle.std.specs.Map.{keys_of};
 ghost use Rattle.element_store.specs.declared.numbers.FileNo.{FileNo};
 ghost use Rattle.linker_base.specs.Members.{IsEachOnce};
@@ -12,7 +12,7 @@ ghost use Rattle.first_reader.specs.PackageModel.{model_of_text};
 ghost use Rattle.session_model.specs.Book.{Book, ranked, files_of};
 ghost use Rattle.session_model.specs.Commands.{Command};
 ghost use Rattle.session_model.specs.Cut.{IsCut, book_left};
-ghost use Rattle.session_laws.specs.Order.{AreInOrder, IsBelow, IsByteOrder, BeginsBefore};
+ghost use Rattle.session_laws.specs.Order.{AreInOrder, IsBelow, IsByteOrder, BeginsBefore, IsPrintedBefore};
 
 /// A law: each input has a cut. With the law that it has at most one, its commands, its answers and its stop are
 /// fixed by its bytes.
@@ -34,4 +34,10 @@ pub fn files_in_byte_order()
 pub fn references_in_rising_place()
     ensures text { (text : List ℕ) → AreInOrder BeginsBefore (model_of_text text).references }
     ensures file { (book : Book) (f : FileNo) (s : Source) → (files_of book).file f ≡ Some s → AreInOrder BeginsBefore s.model.references }
+{}
+
+/// A law: a later place of a text is printed with a later line, or with a later column of the same line. With the law on
+/// references, the rows of `links` rise as they are printed.
+pub fn later_places_print_later()
+    ensures { (text : List ℕ) (p q : ℕ) → p < q → q ≤ length text → IsPrintedBefore text p q }
 {}
