@@ -2,7 +2,7 @@
 -- PartDefinition and Subclassification.
 use Rattle.std.specs.Prelude.{ℕ, ◌+◌, List, [], ◌∷◌, ◌++◌, map, Option, Some, None}
 use Rattle.element_store.specs.declared.outcome.Role.TheVariants.{Subclass}
-use Rattle.link_model.specs.Model.{Element, Member, Reference, Model, bare}
+use Rattle.first_links.specs.Model.{Element, Member, Reference, Model, bare}
 use Rattle.first_reader.specs.declared.package.Written.{Written}
 use Rattle.first_reader.specs.declared.package.Definition.{Definition}
 use Rattle.first_reader.specs.declared.package.Package.{Package}

@@ -1,6 +1,6 @@
 -- A value taken by cases, with the equation that says which case it is.
 use Rattle.std.proofs.Common.{◌≡◌, Bool, true, false, refl, inl, inr}
-use Rattle.std.specs.Prelude.{Option, None, Some, Result, Ok, Err, ◌⊎◌}
+use Rattle.std.specs.Prelude.{Option, None, Some, Result, Ok, Err, ◌⊎◌, ◌&&◌}
 
 -- a Bool is true or false
 pub bool_cases : (b : Bool) → (b ≡ true) ⊎ (b ≡ false)
@@ -20,3 +20,13 @@ result_cases (Err e) = inr (e, refl)
 -- equal answers are equal inside
 pub some_same : {V : Type 0} (v w : V) → Some v ≡ Some w → v ≡ w
 some_same v w e = cc
+
+-- a conjunction that is true has two true parts
+pub both_true : (a b : Bool) → (a && b) ≡ true → (a ≡ true) × (b ≡ true)
+both_true true b e = (refl, e)
+both_true false b e = absurd (cc)
+
+-- two true parts make a true conjunction
+pub and_true : (a b : Bool) → a ≡ true → b ≡ true → (a && b) ≡ true
+and_true true b p q = q
+and_true false b p q = p

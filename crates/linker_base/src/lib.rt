@@ -3,6 +3,7 @@
 //! sets (`Members`), counts that stand still and causes of faults (`Counts`).
 #![tactic(auto)]
 
+pub mod limits;
 mod listing;
 mod no_memory;
 

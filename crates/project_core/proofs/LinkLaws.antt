@@ -13,9 +13,9 @@ use Rattle.linker_base.proofs.Cases.{bool_cases, option_cases}
 use Rattle.element_store.specs.declared.numbers.FileNo.{FileNo}
 use Rattle.element_store.specs.declared.outcome.Outcome.{Outcome}
 use Rattle.element_store.specs.declared.outcome.Outcome.TheVariants.{Linked, Absent, Ambiguous}
-use Rattle.link_model.specs.Model.{Element, Member, Reference, Model, Source, Files}
-use Rattle.link_model.specs.Tiers.{Hit, hits_from, hit_of, members_of, owned, project_tier, elements_of, owner_in, outward, lexical_tiers, deciding, is_element, another, pick}
-use Rattle.link_model.specs.Linking.{ask}
+use Rattle.first_links.specs.Model.{Element, Member, Reference, Model, Source, Files}
+use Rattle.first_links.specs.Tiers.{Hit, hits_from, hit_of, members_of, owned, project_tier, elements_of, owner_in, outward, lexical_tiers, deciding, is_element, another, pick}
+use Rattle.first_links.specs.Linking.{ask}
 use Rattle.first_reader.specs.Grammar.{package_of}
 use Rattle.first_reader.specs.PackageModel.{definition_element, definition_members, definition_references, general_reference, model_of, model_from, model_of_text}
 use Rattle.first_reader.specs.declared.package.Written.{Written}

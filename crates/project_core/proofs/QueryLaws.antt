@@ -6,8 +6,8 @@ use Rattle.linker_base.proofs.Cases.{option_cases}
 use Rattle.element_store.specs.declared.numbers.ElementNo.{ElementNo}
 use Rattle.element_store.specs.declared.numbers.MemberNo.{MemberNo}
 use Rattle.element_store.specs.declared.numbers.RefNo.{RefNo}
-use Rattle.link_model.specs.Model.{Element, Member, Reference, Model, Source, Files}
-use Rattle.link_model.specs.Tiers.{elements_of, members_of, owner_in}
+use Rattle.first_links.specs.Model.{Element, Member, Reference, Model, Source, Files}
+use Rattle.first_links.specs.Tiers.{elements_of, members_of, owner_in}
 use Rattle.first_reader.specs.Grammar.{package_of}
 use Rattle.first_reader.specs.PackageModel.{definition_element, definition_members, definition_references, model_of, model_from, model_of_text}
 use Rattle.first_reader.specs.declared.package.Definition.{Definition}

@@ -6,8 +6,8 @@ use Rattle.element_store.specs.declared.numbers.FileNo.{FileNo}
 use Rattle.element_store.specs.declared.outcome.Outcome.{Outcome}
 use Rattle.element_store.specs.declared.outcome.Outcome.TheVariants.{Linked, Absent, Ambiguous}
 use Rattle.element_store.specs.declared.outcome.Role.TheVariants.{Subclass}
-use Rattle.link_model.specs.Model.{Reference}
-use Rattle.link_model.specs.Tiers.{Hit}
+use Rattle.first_links.specs.Model.{Reference}
+use Rattle.first_links.specs.Tiers.{Hit}
 use Rattle.first_reader.specs.Grammar.{package_of}
 use Rattle.first_reader.specs.declared.package.Written.{Written}
 use Rattle.first_reader.specs.declared.package.Definition.{Definition}

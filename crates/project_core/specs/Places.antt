@@ -2,7 +2,7 @@
 use Rattle.std.specs.Prelude.{Option, Some, None, slice_get, ◌≡◌, ◌≤◌, ℕ, List, length}
 use Rattle.std.specs.Option.{option_map_or}
 use Rattle.element_store.specs.declared.numbers.MemberNo.{MemberNo}
-use Rattle.link_model.specs.Model.{Source, Files}
+use Rattle.first_links.specs.Model.{Source, Files}
 use Rattle.session_model.specs.Texts.{line_at, column_at}
 use Rattle.project_core.specs.declared.place.Place.{Place}
 use Rattle.project_core.specs.declared.place.Cursor.{Cursor}

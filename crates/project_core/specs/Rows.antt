@@ -7,9 +7,9 @@ use Rattle.element_store.specs.declared.numbers.MemberNo.{MemberNo}
 use Rattle.element_store.specs.declared.numbers.RefNo.{RefNo}
 use Rattle.element_store.specs.declared.outcome.Outcome.{Outcome}
 use Rattle.element_store.specs.declared.outcome.Outcome.TheVariants.{Linked, Absent, Ambiguous, Hidden, Cyclic}
-use Rattle.link_model.specs.Model.{Model, Member, Reference, Source, Files}
-use Rattle.link_model.specs.Tiers.{members_of, elements_of}
-use Rattle.link_model.specs.Linking.{ask}
+use Rattle.first_links.specs.Model.{Model, Member, Reference, Source, Files}
+use Rattle.first_links.specs.Tiers.{members_of, elements_of}
+use Rattle.first_links.specs.Linking.{ask}
 use Rattle.first_reader.specs.Grammar.{package_of}
 use Rattle.first_reader.specs.PackageModel.{model_of}
 use Rattle.first_reader.specs.declared.package.Package.{Package}

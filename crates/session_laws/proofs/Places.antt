@@ -6,7 +6,7 @@ use Rattle.linker_base.specs.Members.{IsMember}
 use Rattle.linker_base.proofs.Cases.{option_cases, some_same}
 use Rattle.linker_base.proofs.MemberLaws.{member_left, member_right}
 use Rattle.element_store.specs.declared.numbers.FileNo.{FileNo}
-use Rattle.link_model.specs.Model.{Reference, Source}
+use Rattle.first_links.specs.Model.{Reference, Source}
 use Rattle.first_reader.specs.Grammar.{package_of}
 use Rattle.first_reader.specs.Lexing.{Lex, tokens_of_piece}
 use Rattle.first_reader.specs.PackageModel.{general_reference, definition_references, model_from, model_of_text}

@@ -4,7 +4,7 @@ use Rattle.std.specs.Cmp.Lexicographic.{slice_cmp}
 use Rattle.std.specs.Ordering.{nat_cmp, is_lt}
 use Rattle.std.specs.declared.cmp.Ordering.TheVariants.{Less}
 use Rattle.linker_base.specs.Members.{IsMember, IsEachOnce}
-use Rattle.link_model.specs.Model.{Reference}
+use Rattle.first_links.specs.Model.{Reference}
 use Rattle.session_model.specs.Book.{Book, name_at, text_at}
 use Rattle.session_model.specs.Texts.{line_at, column_at}
 

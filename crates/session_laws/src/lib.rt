@@ -7,7 +7,7 @@ ghost use Rattle.std.specs.Prelude.{◌≡◌, ◌<◌, ◌≤◌, ℕ, Bool, Li
 ghost use Rattle.std.specs.Map.{keys_of};
 ghost use Rattle.element_store.specs.declared.numbers.FileNo.{FileNo};
 ghost use Rattle.linker_base.specs.Members.{IsEachOnce};
-ghost use Rattle.link_model.specs.Model.{Source};
+ghost use Rattle.first_links.specs.Model.{Source};
 ghost use Rattle.first_reader.specs.PackageModel.{model_of_text};
 ghost use Rattle.session_model.specs.Book.{Book, ranked, files_of};
 ghost use Rattle.session_model.specs.Commands.{Command};

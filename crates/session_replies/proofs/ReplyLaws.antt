@@ -9,8 +9,8 @@ use Rattle.std.specs.Cmp.Lexicographic.{pointwise}
 use Rattle.linker_base.proofs.Cases.{bool_cases, option_cases}
 use Rattle.element_store.specs.declared.numbers.FileNo.{FileNo}
 use Rattle.element_store.specs.declared.numbers.MemberNo.{MemberNo}
-use Rattle.link_model.specs.Model.{Reference, Source, Files}
-use Rattle.link_model.specs.Linking.{ask}
+use Rattle.first_links.specs.Model.{Reference, Source, Files}
+use Rattle.first_links.specs.Linking.{ask}
 use Rattle.session_model.specs.Book.{Book, Edited, edited, put_in, text_in, number_in, name_at, bytes_in, files_of}
 use Rattle.session_model.specs.Book.Edited.{Changed, Refused}
 use Rattle.session_model.specs.Commands.{Command}

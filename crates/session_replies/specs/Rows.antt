@@ -11,7 +11,7 @@ use Rattle.project_core.specs.declared.rows.FileReport.{FileReport}
 use Rattle.project_core.specs.declared.rows.FileReport.TheVariants.{In, Refused}
 use Rattle.session_replies.specs.declared.put.PutReply.{PutReply}
 use Rattle.session_replies.specs.declared.put.PutReply.TheVariants.{Answered, NoRoom}
-use Rattle.link_model.specs.Model.{Files}
+use Rattle.first_links.specs.Model.{Files}
 use Rattle.session_model.specs.Texts.{role_text, outcome_text, reference_text}
 use Rattle.project_core.specs.Rows.{IsLiveReference, IsLiveOutcome}
 use Rattle.project_core.specs.declared.place.Place.{Place}

@@ -4,8 +4,8 @@ use Rattle.std.specs.Option.{option_map_or}
 use Rattle.element_store.specs.declared.numbers.FileNo.{FileNo}
 use Rattle.element_store.specs.declared.outcome.Outcome.{Outcome}
 use Rattle.element_store.specs.declared.outcome.Outcome.TheVariants.{Absent}
-use Rattle.link_model.specs.Model.{Element, Reference, Files}
-use Rattle.link_model.specs.Tiers.{elements_of, owner_in, lexical_tiers, deciding, pick}
+use Rattle.first_links.specs.Model.{Element, Reference, Files}
+use Rattle.first_links.specs.Tiers.{elements_of, owner_in, lexical_tiers, deciding, pick}
 
 -- Where the first segment is looked up: the general of a subclassification in the namespace that owns the type.
 -- References of other roles come with the texts that have them.

@@ -8,7 +8,7 @@ use Rattle.element_store.specs.declared.numbers.ElementNo.{ElementNo}
 use Rattle.element_store.specs.declared.numbers.MemberNo.{MemberNo}
 use Rattle.element_store.specs.declared.outcome.Outcome.{Outcome}
 use Rattle.element_store.specs.declared.outcome.Outcome.TheVariants.{Linked, Absent, Ambiguous}
-use Rattle.link_model.specs.Model.{Element, Member, Files}
+use Rattle.first_links.specs.Model.{Element, Member, Files}
 
 -- a member and the element to which it leads
 pub record Hit : Type 0 where
