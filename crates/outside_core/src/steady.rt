@@ -114,8 +114,12 @@ impl SteadyShelf {
     pub fn new(names: Vec<String>, texts: Vec<Vec<u8>>) -> SteadyShelf
         requires as_many { vec_len names ≡ vec_len texts }
         requires distinct { IsEachOnce (map string_bytes names.items) }
-        ensures value { result ≡ record { names = map string_bytes names.items; texts = map vec_items texts.items } }
-        ensures held { StandsBeside (map string_bytes names.items) (map vec_items texts.items) (steady_text result) }
+        ensures value { result ≡ record {
+          names = map string_bytes names.items;
+          texts = map vec_items texts.items;
+        } }
+        ensures held { StandsBeside (map string_bytes names.items) (map vec_items texts.items)
+            (steady_text result) }
     {
         SteadyShelf { names, texts }
     }
@@ -148,7 +152,8 @@ impl Shelf for SteadyShelf {
 /// The text beside the first such name, or the empty text.
 fn text_under<'a>(names: &[String], texts: &'a [Vec<u8>], name: &str) -> &'a [u8]
     requires { length names.now ≡ length texts.now }
-    ensures { result.now ≡ steady_text (record { names = map string_bytes names.now; texts = map vec_items texts.now }) name.now }
+    ensures { result.now ≡ steady_text
+        (record { names = map string_bytes names.now; texts = map vec_items texts.now }) name.now }
 {
     let mut i = 0;
     while i < names.len() {
