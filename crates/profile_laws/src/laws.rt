@@ -14,7 +14,8 @@ ghost use Rattle.profile_laws.specs.Syntax.{Writes};
 /// A law: `piece_at` finds the longest piece at the front of the bytes, and nothing only where no
 /// piece begins.
 pub fn longest_piece()
-    ensures found { (bytes : List ℕ) (p : Piece) → piece_at bytes ≡ Some p → IsLongest p.kind (take p.length bytes) (drop p.length bytes) }
+    ensures found { (bytes : List ℕ) (p : Piece) → piece_at bytes ≡ Some p
+        → IsLongest p.kind (take p.length bytes) (drop p.length bytes) }
     ensures within { (bytes : List ℕ) (p : Piece) → piece_at bytes ≡ Some p → p.length ≤ length bytes }
     ensures none { (bytes : List ℕ) → piece_at bytes ≡ None → NoPiece bytes }
 {}
@@ -25,14 +26,17 @@ pub fn kinds_of_words()
     ensures package_word { (word : List ℕ) → (kind_of word ≡ token.Package) ↔ (word ≡ codes "package") }
     ensures part_word { (word : List ℕ) → (kind_of word ≡ token.Part) ↔ (word ≡ codes "part") }
     ensures def_word { (word : List ℕ) → (kind_of word ≡ token.Def) ↔ (word ≡ codes "def") }
-    ensures name { (word : List ℕ) → (kind_of word ≡ token.Name) ↔ (IsMember (map (λ known. known.now) RESERVED) word → ⊥) }
+    ensures name { (word : List ℕ) → (kind_of word ≡ token.Name)
+        ↔ (IsMember (map (λ known. known.now) RESERVED) word → ⊥) }
 {}
 
 /// A law: `lexed` gives the tokens of a text exactly where the text is a list of pieces, each the
 /// longest at its place, with these tokens. So it has one such list.
 pub fn lexing_is_exact()
-    ensures value { (text : List ℕ) (tokens : List Token) → (lexed text ≡ Some tokens) ↔ ((kinds : List PieceKind) × Lex 0 kinds text tokens) }
-    ensures one { (text : List ℕ) (kinds others : List PieceKind) (tokens later : List Token) → Lex 0 kinds text tokens → Lex 0 others text later → (kinds ≡ others) × (tokens ≡ later) }
+    ensures value { (text : List ℕ) (tokens : List Token) → (lexed text ≡ Some tokens)
+        ↔ ((kinds : List PieceKind) × Lex 0 kinds text tokens) }
+    ensures one { (text : List ℕ) (kinds others : List PieceKind) (tokens later : List Token)
+        → Lex 0 kinds text tokens → Lex 0 others text later → (kinds ≡ others) × (tokens ≡ later) }
 {}
 
 /// A law: `package_of` gives a package exactly where the text writes it, and nothing exactly where the

@@ -15,7 +15,8 @@ use std::alloc::Global;
 /// Writes rows of `links`, each as a line.
 fn write_rows(answer: &mut Vec<u8>, project: &Project, rows: &[LinkRow]) -> Result<(), NoMemory>
     requires { AreLive project.now rows.now }
-    ensures { OnOk result (answer.new.items ≡ answer.old.items ++ flat_map (row_text (files_of project.now)) rows.now) }
+    ensures { OnOk result (answer.new.items ≡ answer.old.items
+        ++ flat_map (row_text (files_of project.now)) rows.now) }
 {
     for row in rows {
         write_row(answer, project, row)?;
