@@ -61,7 +61,8 @@ impl<R: Read> Source for StdSource<R> {
         ensures told { Takes None None result into.new }
         ensures cause { HasCause self.old.faults self.new.faults result }
         ensures counted { OnErr result (self.new.faults ≡ counted_once self.old.faults) }
-        ensures bytes { ReadConsumes (R.remaining self.old.stream) (R.remaining self.new.stream) result into.new }
+        ensures bytes { ReadConsumes (R.remaining self.old.stream)
+            (R.remaining self.new.stream) result into.new }
     {
         match self.reader.read(into) {
             Ok(count) => Ok(count),

@@ -53,7 +53,8 @@ impl Source for SteadySource {
         ensures cause { HasCause 0 0 result }
 
         // No call fails. Each moves as many bytes as it may, and uses up its cut.
-        ensures moved { result ≡ Ok (within_cut self.old.cuts (min (length into.old) (length self.old.left))) }
+        ensures moved { result ≡ Ok (within_cut self.old.cuts
+            (min (length into.old) (length self.old.left))) }
         ensures cuts { self.new.cuts ≡ drop 1 self.old.cuts }
     {
         let count = self.cuts.begin(into.len().min(self.rest.len()));
@@ -104,7 +105,10 @@ impl Model for SteadyShelf {
 
     ghost Value = { Library };
 
-    ghost view = { λ s. record { names = map string_bytes s.names.items; texts = map vec_items s.texts.items } };
+    ghost view = { λ s. record {
+      names = map string_bytes s.names.items;
+      texts = map vec_items s.texts.items;
+    } };
 
     ghost invariant = { λ s. length s.names.items ≡ length s.texts.items };
 }

@@ -16,14 +16,16 @@ ghost use Rattle.profile_laws.specs.Syntax.{Writes};
 pub fn longest_piece()
     ensures found { (bytes : List ℕ) (p : Piece) → piece_at bytes ≡ Some p
         → IsLongest p.kind (take p.length bytes) (drop p.length bytes) }
-    ensures within { (bytes : List ℕ) (p : Piece) → piece_at bytes ≡ Some p → p.length ≤ length bytes }
+    ensures within { (bytes : List ℕ) (p : Piece) → piece_at bytes ≡ Some p
+        → p.length ≤ length bytes }
     ensures none { (bytes : List ℕ) → piece_at bytes ≡ None → NoPiece bytes }
 {}
 
 /// A law: the words of the grammar have kinds of their own, and a word is a name exactly where it isn't
 /// in the list of reserved words.
 pub fn kinds_of_words()
-    ensures package_word { (word : List ℕ) → (kind_of word ≡ token.Package) ↔ (word ≡ codes "package") }
+    ensures package_word { (word : List ℕ) → (kind_of word ≡ token.Package)
+        ↔ (word ≡ codes "package") }
     ensures part_word { (word : List ℕ) → (kind_of word ≡ token.Part) ↔ (word ≡ codes "part") }
     ensures def_word { (word : List ℕ) → (kind_of word ≡ token.Def) ↔ (word ≡ codes "def") }
     ensures name { (word : List ℕ) → (kind_of word ≡ token.Name)
@@ -43,5 +45,6 @@ pub fn lexing_is_exact()
 /// text writes none. So a text writes one package at most.
 pub fn reading_is_exact()
     ensures value { (text : List ℕ) (p : Package) → (package_of text ≡ Some p) ↔ Writes text p }
-    ensures none { (text : List ℕ) → (package_of text ≡ None) ↔ ((p : Package) → Writes text p → ⊥) }
+    ensures none { (text : List ℕ) → (package_of text ≡ None)
+        ↔ ((p : Package) → Writes text p → ⊥) }
 {}

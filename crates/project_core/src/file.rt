@@ -126,7 +126,8 @@ impl FileModel {
 
     /// The first two definitions that bear the name, by their numbers in the package, from 0.
     pub fn named(&self, name: &Name) -> Option<Bearers>
-        ensures found { result ≡ two_of (numbers_of name.now (definition_notes 0 self.now.definitions)) }
+        ensures found { result ≡ two_of (numbers_of name.now
+            (definition_notes 0 self.now.definitions)) }
         ensures within { IfSome result (IsWithinCount (length self.now.definitions)) }
     {
         self.names.find(name)

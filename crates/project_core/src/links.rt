@@ -176,7 +176,8 @@ fn rows_of(
     requires short { length text.now ≤ FILE_BYTES }
     requires few { length model.now.definitions ≤ FILE_BYTES }
     ensures { IfOk result (λ rows. rows
-        ≡ table_rows file text.now model.now packages.now 0 (generals_from 0 model.now.definitions)) }
+        ≡ table_rows file text.now model.now packages.now 0
+        (generals_from 0 model.now.definitions)) }
 {
     let mut rows = LinkRows::new(alloc);
     let mut cursor = Cursor::start();
@@ -190,7 +191,8 @@ fn rows_of(
 impl Project {
     /// Whether the name of one file is below that of another in byte order.
     fn is_below(&self, number: u32, other: u32) -> bool
-        ensures { result ≡ is_lt (slice_cmp nat_cmp (name_at self.now number) (name_at self.now other)) }
+        ensures { result ≡ is_lt (slice_cmp nat_cmp (name_at self.now number)
+            (name_at self.now other)) }
     {
         self.name(number).cmp(self.name(other)).is_lt()
     }
@@ -248,7 +250,8 @@ impl Project {
 
     /// The packages of all files by their names.
     fn packages(&self) -> Result<NameTable, NoMemory>
-        ensures { IfOk result (λ packages. IsTable packages (root_notes self.now (ranked self.now))) }
+        ensures { IfOk result
+            (λ packages. IsTable packages (root_notes self.now (ranked self.now))) }
     {
         let order = self.ranked()?;
         let mut packages = NameTable::new(self.alloc());

@@ -61,7 +61,8 @@ Stands c seen rest left = (seen ≡ spelling_of c ++ rest)
 abbrev pub IsNext : Window → Window → Option (List ℕ) → Result Command ReadStop → List ℕ → Type 0
 IsNext before after left (Ok c) seen =
     HasForm (command_of c) × Stands (command_of c) seen after.pending left
-    × (after.used + length after.pending ≡ before.used + length seen) × (after.used + length after.pending ≤ INPUT_BYTES)
+    × (after.used + length after.pending ≡ before.used + length seen)
+    × (after.used + length after.pending ≤ INPUT_BYTES)
 IsNext before after left (Err stop) seen = (after.used ≡ before.used) × Stops before.used seen left stop
 
 -- a piece was put after the pending bytes, or memory was wanting

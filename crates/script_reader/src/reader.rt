@@ -30,7 +30,8 @@ impl Model for ScriptReader {
 
     ghost view = { λ r. record { used = r.used; pending = drop r.at r.bytes.items } };
 
-    ghost invariant = { λ r. (r.at ≤ length r.bytes.items) × (r.used + length r.bytes.items ≤ r.at + INPUT_BYTES) };
+    ghost invariant = { λ r. (r.at ≤ length r.bytes.items)
+        × (r.used + length r.bytes.items ≤ r.at + INPUT_BYTES) };
 }
 
 impl ScriptReader {
@@ -102,7 +103,10 @@ impl ScriptReader {
     /// The command that was read had so many bytes.
     fn use_up(&mut self, size: usize)
         requires { size ≤ length self.old.pending }
-        ensures after { self.new ≡ record { used = self.old.used + size; pending = drop size self.old.pending } }
+        ensures after { self.new ≡ record {
+          used = self.old.used + size;
+          pending = drop size self.old.pending;
+        } }
         ensures within { self.new.used + length self.new.pending ≤ INPUT_BYTES }
     {
         self.used += size as u64;

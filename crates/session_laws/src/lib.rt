@@ -25,7 +25,8 @@ pub fn cut_exists()
 /// book, as in all books that commands leave, the names rise, and no other list is in byte order.
 pub fn files_in_byte_order()
     ensures order { (book : Book) → IsByteOrder book (ranked book) }
-    ensures rising { (book : Book) (numbers : List ℕ) → IsEachOnce (keys_of book) → IsByteOrder book numbers
+    ensures rising { (book : Book) (numbers : List ℕ) → IsEachOnce (keys_of book)
+        → IsByteOrder book numbers
         → AreInOrder (IsBelow book) numbers }
     ensures one { (book : Book) (numbers others : List ℕ) → IsEachOnce (keys_of book)
         → IsByteOrder book numbers → IsByteOrder book others → numbers ≡ others }

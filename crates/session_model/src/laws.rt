@@ -6,7 +6,8 @@ ghost use Rattle.session_model.specs.Refusals.{IsRefused};
 
 /// A law: an input has at most one cut, so that its commands, its answers and its stop are fixed by its bytes.
 pub fn one_cut()
-    ensures { (ended : Bool) (cs ds : List Command) (bytes rest left : List ℕ) → IsCut ended cs bytes rest
+    ensures { (ended : Bool) (cs ds : List Command) (bytes rest left : List ℕ)
+        → IsCut ended cs bytes rest
         → IsCut ended ds bytes left → (cs ≡ ds) × (rest ≡ left) }
 {}
 

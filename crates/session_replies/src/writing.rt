@@ -131,7 +131,8 @@ fn role_word(role: Role) -> &'static [u8]
 /// Writes a row of `links` as a line.
 pub fn write_row(answer: &mut Vec<u8>, project: &Project, row: &LinkRow) -> Result<(), NoMemory>
     requires { IsLiveRow project.now row.now }
-    ensures { OnOk result (answer.new.items ≡ answer.old.items ++ row_text (files_of project.now) row.now) }
+    ensures { OnOk result (answer.new.items ≡ answer.old.items
+        ++ row_text (files_of project.now) row.now) }
 {
     let text = taken(project.text_of(row.reference))?;
     write_place(answer, row.place)?;
