@@ -1,8 +1,8 @@
-ghost use Rattle.demand_trial.specs.Numbers.{number_exact};
+ghost use Rattle.rules_example.specs.Numbers.{number_exact};
 
 use demand_core::Same;
 
-/// A key of the trial: the place of its row, from 0.
+/// A key of the example: the place of its row, from 0.
 #[derive(Clone, Copy, PartialEq, Eq, Hash)]
 pub struct Number(pub usize);
 

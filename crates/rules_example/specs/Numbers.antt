@@ -1,9 +1,9 @@
--- The keys of the trial.
+-- The keys of the example.
 use Rattle.std.specs.Prelude.{◌≡◌, ℕ, zero, suc, Bool, true, List, [], ◌∷◌, ◌++◌, nat_eq}
 use Rattle.std.proofs.Common.{ap, arith}
 use Rattle.std.proofs.lemmas.Bool.Decides.{nat_tests}
 use Rattle.linker_base.specs.Members.{IsExact}
-use Rattle.demand_trial.specs.declared.number.Number.{Number}
+use Rattle.rules_example.specs.declared.number.Number.{Number}
 
 nat_eq_same : (a b : ℕ) → nat_eq a b ≡ true → a ≡ b
 nat_eq_same a b h = grind (arith, nat_tests)
