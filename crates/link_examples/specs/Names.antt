@@ -1,45 +1,19 @@
 -- Worked rows: names, effective names, circles, ambiguous and hidden ones.
-use Rattle.std.specs.Prelude.{◌≡◌, ℕ, Bool, true, false, List, [], ◌∷◌, Option, None, Some, map, codes, nat_eq, refl}
-use Rattle.std.specs.List.{list_any}
-use Rattle.std.specs.Cmp.Lexicographic.{pointwise}
-use Rattle.demand_core.specs.Tables.{Decided}
-use Rattle.demand_core.specs.Computation.{Asked}
+use Rattle.std.specs.Prelude.{◌≡◌, true, false, List, [], ◌∷◌, None, Some, codes, refl}
 use Rattle.demand_core.specs.Least.{least, stage, cyclic_on}
 use Rattle.demand_core.specs.Gather.{gather}
-use Rattle.demand_core.specs.declared.looks.Fact.{Fact}
-use Rattle.demand_core.specs.declared.looks.Fact.TheVariants.{Key, Outer}
-use Rattle.demand_core.specs.declared.step.Step.{Step}
 use Rattle.demand_core.specs.declared.step.Step.TheVariants.{Done, Waits}
-use Rattle.element_store.specs.declared.numbers.FileNo.{FileNo}
-use Rattle.element_store.specs.declared.numbers.ElementNo.{ElementNo}
-use Rattle.element_store.specs.declared.numbers.MemberNo.{MemberNo}
-use Rattle.element_store.specs.declared.numbers.RefNo.{RefNo}
-use Rattle.element_store.specs.declared.outcome.Language.TheVariants.{Sysml}
-use Rattle.element_store.specs.declared.outcome.Role.{Role}
 use Rattle.element_store.specs.declared.outcome.Role.TheVariants as role
-use Rattle.element_store.specs.declared.outcome.Outcome.{Outcome}
-use Rattle.element_store.specs.declared.outcome.Outcome.TheVariants.{Linked, Absent, Ambiguous, Hidden, Cyclic}
-use Rattle.element_store.specs.declared.kind.Kind.{Kind}
+use Rattle.element_store.specs.declared.outcome.Outcome.TheVariants.{Absent, Ambiguous, Hidden, Cyclic}
 use Rattle.element_store.specs.declared.kind.Kind.TheVariants as kind
-use Rattle.element_store.specs.declared.kind.Visibility.{Visibility}
 use Rattle.element_store.specs.declared.kind.Visibility.TheVariants.{Public, Private, Protected}
-use Rattle.element_store.specs.declared.records.Element.{Element}
-use Rattle.element_store.specs.declared.records.Member.{Member}
-use Rattle.element_store.specs.declared.records.Target.TheVariants.{Owned, Alias}
-use Rattle.element_store.specs.declared.records.Reference.{Reference}
-use Rattle.element_store.specs.declared.records.Import.{Import}
 use Rattle.element_store.specs.declared.models.StoredFile.{StoredFile}
-use Rattle.element_store.specs.Model.{Data, root_element}
-use Rattle.link_model.specs.declared.keys.LinkKey.{LinkKey}
-use Rattle.link_model.specs.declared.keys.LinkFact.{LinkFact}
-use Rattle.link_model.specs.declared.keys.LinkFact.TheVariants.{File, RootName}
-use Rattle.link_model.specs.Keys.{same_file, same_key}
-use Rattle.link_model.specs.Outside.{seen_in, library_of, keys_of}
+use Rattle.element_store.specs.Model.{root_element}
+use Rattle.link_model.specs.Keys.{same_key}
 use Rattle.link_model.specs.Names.{names_from}
 use Rattle.link_model.specs.Imports.{visible_from}
-use Rattle.link_model.specs.Asking.{path_elements}
-use Rattle.link_model.specs.Linking.{rule, link_meaning, find}
-use Rattle.link_examples.specs.Words.{alias, asked, brings, by_member, data_of, element, file, file_of, found, gone_file, is_fact, is_key, library_file, links_of, looks_at, nameless, owned, owned_as, path_of, reference, refers, same_fact, thing, to}
+use Rattle.link_model.specs.Linking.{link_meaning}
+use Rattle.link_examples.specs.Words.{alias, asked, brings, by_member, data_of, file_of, found, links_of, nameless, of_file, of_key, of_name, owned, owned_as, reference, refers, sees, thing, to}
 
 -- A type that specialises itself, and two that specialise each other
 --   a.sysml: part def A :> A;
@@ -53,7 +27,8 @@ circular = file_of (codes "a.sysml") (data_of 0
     ∷ [])
     (refers role.Subclass 1 ((codes "A") ∷ [])
     ∷ [])
-    []) ∷ file_of (codes "b.sysml") (data_of 1
+    [])
+    ∷ file_of (codes "b.sysml") (data_of 1
     (root_element
     ∷ thing kind.PartDef 0 (codes "B")
     ∷ thing kind.Part 1 (codes "x")
@@ -66,57 +41,35 @@ circular = file_of (codes "a.sysml") (data_of 0
     (refers role.Subclass 1 ((codes "C") ∷ [])
     ∷ refers role.Subclass 3 ((codes "B") ∷ [])
     ∷ [])
-    []) ∷ []
+    [])
+    ∷ []
 
-pub circular_links : links_of circular ≡ (Some (to 0 1)) ∷ (Some (to 1 3)) ∷ (Some (to 1 1)) ∷ []
+pub circular_links : links_of circular
+    ≡ Some (to 0 1)
+    ∷ Some (to 1 3)
+    ∷ Some (to 1 1)
+    ∷ []
 unfolding least stage gather names_from visible_from
 circular_links = refl
 
-pub circular_finds_C_x : found circular ((codes "C") ∷ (codes "x") ∷ []) ≡ (to 1 2)
+pub circular_finds_C_x : found circular ((codes "C") ∷ (codes "x") ∷ [])
+    ≡ to 1 2
 unfolding least stage gather names_from visible_from
 circular_finds_C_x = refl
 
--- Inherited features and their redefinitions
---   a.sysml: part def A { part x; } part def B :> A { part y :>> x; } part def D :> B { part z :>> A::x; }
-abbrev pub redefined : List StoredFile
-redefined = file_of (codes "a.sysml") (data_of 0
-    (root_element
-    ∷ thing kind.PartDef 0 (codes "A")
-    ∷ thing kind.Part 1 (codes "x")
-    ∷ thing kind.PartDef 0 (codes "B")
-    ∷ thing kind.Part 3 (codes "y")
-    ∷ thing kind.PartDef 0 (codes "D")
-    ∷ thing kind.Part 5 (codes "z")
-    ∷ [])
-    (owned 0 1 (codes "A")
-    ∷ owned 1 2 (codes "x")
-    ∷ owned 0 3 (codes "B")
-    ∷ owned 3 4 (codes "y")
-    ∷ owned 0 5 (codes "D")
-    ∷ owned 5 6 (codes "z")
-    ∷ [])
-    (refers role.Subclass 3 ((codes "A") ∷ [])
-    ∷ refers role.Redefinition 4 ((codes "x") ∷ [])
-    ∷ refers role.Subclass 5 ((codes "B") ∷ [])
-    ∷ refers role.Redefinition 6 ((codes "A") ∷ (codes "x") ∷ [])
-    ∷ [])
-    []) ∷ []
-
-pub redefined_links : links_of redefined ≡ (Some (to 0 1)) ∷ (Some (to 0 2)) ∷ (Some (to 0 3)) ∷ (Some (to 0 2)) ∷ []
+-- over the empty table that reference is decided
+pub circular_first_asking : (asked circular (λ k. None) (reference 1 1)).step
+    ≡ Done (to 1 1)
 unfolding least stage gather names_from visible_from
-redefined_links = refl
+circular_first_asking = refl
 
-pub redefined_finds_B_y : found redefined ((codes "B") ∷ (codes "y") ∷ []) ≡ (to 0 4)
+-- over the least linking it looks at these
+pub circular_looks : sees circular (reference 1 1)
+    (of_file 1
+        ∷ [])
+    ≡ true
 unfolding least stage gather names_from visible_from
-redefined_finds_B_y = refl
-
-pub redefined_finds_D_y : found redefined ((codes "D") ∷ (codes "y") ∷ []) ≡ (Absent 2)
-unfolding least stage gather names_from visible_from
-redefined_finds_D_y = refl
-
-pub redefined_finds_D_z : found redefined ((codes "D") ∷ (codes "z") ∷ []) ≡ (to 0 6)
-unfolding least stage gather names_from visible_from
-redefined_finds_D_z = refl
+circular_looks = refl
 
 -- Names that wait on each other
 --   a.sysml: package P { part def A :> B::X; part def B :> A::Y; }
@@ -134,9 +87,13 @@ names_in_a_circle = file_of (codes "a.sysml") (data_of 0
     (refers role.Subclass 2 ((codes "B") ∷ (codes "X") ∷ [])
     ∷ refers role.Subclass 3 ((codes "A") ∷ (codes "Y") ∷ [])
     ∷ [])
-    []) ∷ []
+    [])
+    ∷ []
 
-pub names_in_a_circle_links : links_of names_in_a_circle ≡ None ∷ None ∷ []
+pub names_in_a_circle_links : links_of names_in_a_circle
+    ≡ None
+    ∷ None
+    ∷ []
 unfolding least stage gather names_from visible_from
 names_in_a_circle_links = refl
 
@@ -151,9 +108,24 @@ unfolding least stage gather names_from visible_from
 names_in_a_circle_0_1_is_cyclic = refl
 
 pub names_in_a_circle_finds_P_A_Z : found names_in_a_circle ((codes "P") ∷ (codes "A") ∷ (codes "Z") ∷ [])
-    ≡ (Cyclic (reference 0 0).0)
+    ≡ Cyclic (reference 0 0).0
 unfolding least stage gather names_from visible_from
 names_in_a_circle_finds_P_A_Z = refl
+
+-- over the empty table that reference waits
+pub names_in_a_circle_first_asking : (asked names_in_a_circle (λ k. None) (reference 0 1)).step
+    ≡ Waits (reference 0 0 ∷ [])
+unfolding least stage gather names_from visible_from
+names_in_a_circle_first_asking = refl
+
+-- over the least linking it looks at these
+pub names_in_a_circle_looks : sees names_in_a_circle (reference 0 1)
+    (of_file 0
+        ∷ of_key 0 0
+        ∷ [])
+    ≡ true
+unfolding least stage gather names_from visible_from
+names_in_a_circle_looks = refl
 
 -- The same with a member that ends the circle
 --   a.sysml: package P { part def A :> B::X; part def B :> A::Y { part def X; } }
@@ -173,16 +145,34 @@ mended = file_of (codes "a.sysml") (data_of 0
     (refers role.Subclass 2 ((codes "B") ∷ (codes "X") ∷ [])
     ∷ refers role.Subclass 3 ((codes "A") ∷ (codes "Y") ∷ [])
     ∷ [])
-    []) ∷ []
+    [])
+    ∷ []
 
-pub mended_links : links_of mended ≡ (Some (to 0 4)) ∷ (Some (Absent 2)) ∷ []
+pub mended_links : links_of mended
+    ≡ Some (to 0 4)
+    ∷ Some (Absent 2)
+    ∷ []
 unfolding least stage gather names_from visible_from
 mended_links = refl
 
+-- over the empty table that reference waits
+pub mended_first_asking : (asked mended (λ k. None) (reference 0 1)).step
+    ≡ Waits (reference 0 0 ∷ [])
+unfolding least stage gather names_from visible_from
+mended_first_asking = refl
+
+-- over the least linking it looks at these
+pub mended_looks : sees mended (reference 0 1)
+    (of_file 0
+        ∷ of_key 0 0
+        ∷ [])
+    ≡ true
+unfolding least stage gather names_from visible_from
+mended_looks = refl
+
 -- Two members under one name by two imports, and one member by two imports
---   a.sysml: package A { part x; } package B { part x; }
---     package C { private import A::*; private import B::*; part p :> x; }
---     package D { private import A::*; private import A::x; part q :> x; }
+--   a.sysml: package A { part x; } package B { part x; } package C { private import A::*; private import B::*;
+--     part p :> x; } package D { private import A::*; private import A::x; part q :> x; }
 abbrev pub ambiguous : List StoredFile
 ambiguous = file_of (codes "a.sysml") (data_of 0
     (root_element
@@ -215,12 +205,35 @@ ambiguous = file_of (codes "a.sysml") (data_of 0
     ∷ brings Private 5 1 true
     ∷ brings Private 7 3 true
     ∷ brings Private 7 4 false
-    ∷ [])) ∷ []
+    ∷ []))
+    ∷ []
 
-pub ambiguous_links : links_of ambiguous ≡ (Some (to 0 1)) ∷ (Some (to 0 3))
-    ∷ (Some (Ambiguous 1 (by_member 0 1) (by_member 0 3))) ∷ (Some (to 0 1)) ∷ (Some (to 0 2)) ∷ (Some (to 0 2)) ∷ []
+pub ambiguous_links : links_of ambiguous
+    ≡ Some (to 0 1)
+    ∷ Some (to 0 3)
+    ∷ Some (Ambiguous 1 (by_member 0 1) (by_member 0 3))
+    ∷ Some (to 0 1)
+    ∷ Some (to 0 2)
+    ∷ Some (to 0 2)
+    ∷ []
 unfolding least stage gather names_from visible_from
 ambiguous_links = refl
+
+-- over the empty table that reference waits
+pub ambiguous_first_asking : (asked ambiguous (λ k. None) (reference 0 5)).step
+    ≡ Waits (reference 0 3 ∷ reference 0 4 ∷ [])
+unfolding least stage gather names_from visible_from
+ambiguous_first_asking = refl
+
+-- over the least linking it looks at these
+pub ambiguous_looks : sees ambiguous (reference 0 5)
+    (of_file 0
+        ∷ of_key 0 3
+        ∷ of_key 0 4
+        ∷ [])
+    ≡ true
+unfolding least stage gather names_from visible_from
+ambiguous_looks = refl
 
 -- A private member that is hidden, and a protected one that is inherited
 --   a.sysml: package P { private part x; part def T { protected part y; } } part a :> P::x;
@@ -252,12 +265,32 @@ hidden = file_of (codes "a.sysml") (data_of 0
     ∷ refers role.Subsetting 8 ((codes "y") ∷ [])
     ∷ [])
     (brings Private 6 1 false
-    ∷ [])) ∷ []
+    ∷ []))
+    ∷ []
 
-pub hidden_links : links_of hidden ≡ (Some (Hidden 2 (by_member 0 1))) ∷ (Some (to 0 3)) ∷ (Some (to 0 3))
-    ∷ (Some (to 0 4)) ∷ []
+pub hidden_links : links_of hidden
+    ≡ Some (Hidden 2 (by_member 0 1))
+    ∷ Some (to 0 3)
+    ∷ Some (to 0 3)
+    ∷ Some (to 0 4)
+    ∷ []
 unfolding least stage gather names_from visible_from
 hidden_links = refl
+
+-- over the empty table that reference waits
+pub hidden_first_asking : (asked hidden (λ k. None) (reference 0 3)).step
+    ≡ Waits (reference 0 2 ∷ [])
+unfolding least stage gather names_from visible_from
+hidden_first_asking = refl
+
+-- over the least linking it looks at these
+pub hidden_looks : sees hidden (reference 0 3)
+    (of_file 0
+        ∷ of_key 0 2
+        ∷ [])
+    ≡ true
+unfolding least stage gather names_from visible_from
+hidden_looks = refl
 
 -- Effective names
 --   a.sysml: part def V { part <e> engine; } part def C :> V { part :>> engine; }
@@ -277,19 +310,40 @@ effective = file_of (codes "a.sysml") (data_of 0
     (refers role.Subclass 3 ((codes "V") ∷ [])
     ∷ refers role.Redefinition 4 ((codes "engine") ∷ [])
     ∷ [])
-    []) ∷ []
+    [])
+    ∷ []
 
-pub effective_links : links_of effective ≡ (Some (to 0 1)) ∷ (Some (to 0 2)) ∷ []
+pub effective_links : links_of effective
+    ≡ Some (to 0 1)
+    ∷ Some (to 0 2)
+    ∷ []
 unfolding least stage gather names_from visible_from
 effective_links = refl
 
-pub effective_finds_C_engine : found effective ((codes "C") ∷ (codes "engine") ∷ []) ≡ (to 0 4)
+pub effective_finds_C_engine : found effective ((codes "C") ∷ (codes "engine") ∷ [])
+    ≡ to 0 4
 unfolding least stage gather names_from visible_from
 effective_finds_C_engine = refl
 
-pub effective_finds_C_e : found effective ((codes "C") ∷ (codes "e") ∷ []) ≡ (to 0 4)
+pub effective_finds_C_e : found effective ((codes "C") ∷ (codes "e") ∷ [])
+    ≡ to 0 4
 unfolding least stage gather names_from visible_from
 effective_finds_C_e = refl
+
+-- over the empty table that reference waits
+pub effective_first_asking : (asked effective (λ k. None) (reference 0 1)).step
+    ≡ Waits (reference 0 0 ∷ [])
+unfolding least stage gather names_from visible_from
+effective_first_asking = refl
+
+-- over the least linking it looks at these
+pub effective_looks : sees effective (reference 0 1)
+    (of_file 0
+        ∷ of_key 0 0
+        ∷ [])
+    ≡ true
+unfolding least stage gather names_from visible_from
+effective_looks = refl
 
 -- Aliases in a circle over two files
 --   a.sysml: alias a for b;
@@ -302,28 +356,52 @@ aliases = file_of (codes "a.sysml") (data_of 0
     ∷ [])
     (refers role.Alias 0 ((codes "b") ∷ [])
     ∷ [])
-    []) ∷ file_of (codes "b.sysml") (data_of 1
+    [])
+    ∷ file_of (codes "b.sysml") (data_of 1
     (root_element
     ∷ [])
     (alias 0 0 (codes "b")
     ∷ [])
     (refers role.Alias 0 ((codes "a") ∷ [])
     ∷ [])
-    []) ∷ []
+    [])
+    ∷ []
 
-pub aliases_links : links_of aliases ≡ None ∷ None ∷ []
+pub aliases_links : links_of aliases
+    ≡ None
+    ∷ None
+    ∷ []
 unfolding least stage gather names_from visible_from
 aliases_links = refl
 
-pub aliases_0_0_is_cyclic : cyclic_on same_key (link_meaning aliases) (reference 0 0) ≡ Some (reference 1 0)
+pub aliases_0_0_is_cyclic : cyclic_on same_key (link_meaning aliases) (reference 0 0)
+    ≡ Some (reference 1 0)
 unfolding least stage gather names_from visible_from
 aliases_0_0_is_cyclic = refl
 
-pub aliases_1_0_is_cyclic : cyclic_on same_key (link_meaning aliases) (reference 1 0) ≡ Some (reference 0 0)
+pub aliases_1_0_is_cyclic : cyclic_on same_key (link_meaning aliases) (reference 1 0)
+    ≡ Some (reference 0 0)
 unfolding least stage gather names_from visible_from
 aliases_1_0_is_cyclic = refl
 
--- Two open aliases under one name: the least is that of the file whose name comes first, whatever the numbers
+-- over the empty table that reference waits
+pub aliases_first_asking : (asked aliases (λ k. None) (reference 1 0)).step
+    ≡ Waits (reference 0 0 ∷ [])
+unfolding least stage gather names_from visible_from
+aliases_first_asking = refl
+
+-- over the least linking it looks at these
+pub aliases_looks : sees aliases (reference 1 0)
+    (of_file 0
+        ∷ of_file 1
+        ∷ of_key 0 0
+        ∷ of_name (codes "a")
+        ∷ [])
+    ≡ true
+unfolding least stage gather names_from visible_from
+aliases_looks = refl
+
+-- Two open aliases under one name: the least is that of the file whose name comes first
 --   c.sysml: alias x for z;
 --   a.sysml: alias x for z;
 --   b.sysml: part p :> x;
@@ -352,8 +430,79 @@ several = file_of (codes "c.sysml") (data_of 0
     ∷ [])
     (refers role.Subsetting 1 ((codes "x") ∷ [])
     ∷ [])
-    []) ∷ []
+    [])
+    ∷ []
 
-pub several_waits : (asked several (λ k. None) (reference 2 0)).step ≡ Waits (reference 1 0 ∷ reference 0 0 ∷ [])
+pub several_links : links_of several
+    ≡ Some (Absent 1)
+    ∷ Some (Absent 1)
+    ∷ Some (Absent 1)
+    ∷ []
 unfolding least stage gather names_from visible_from
-several_waits = refl
+several_links = refl
+
+-- over the empty table that reference waits
+pub several_first_asking : (asked several (λ k. None) (reference 2 0)).step
+    ≡ Waits (reference 1 0 ∷ reference 0 0 ∷ [])
+unfolding least stage gather names_from visible_from
+several_first_asking = refl
+
+-- over the least linking it looks at these
+pub several_looks : sees several (reference 2 0)
+    (of_file 1
+        ∷ of_file 2
+        ∷ of_file 0
+        ∷ of_key 1 0
+        ∷ of_key 0 0
+        ∷ of_name (codes "x")
+        ∷ [])
+    ≡ true
+unfolding least stage gather names_from visible_from
+several_looks = refl
+
+-- A name that an inner tier has: the project tier isn't reached
+--   a.sysml: package P { part x; part y :> x; }
+--   b.sysml: part x;
+abbrev pub inner : List StoredFile
+inner = file_of (codes "a.sysml") (data_of 0
+    (root_element
+    ∷ thing kind.Package 0 (codes "P")
+    ∷ thing kind.Part 1 (codes "x")
+    ∷ thing kind.Part 1 (codes "y")
+    ∷ [])
+    (owned 0 1 (codes "P")
+    ∷ owned 1 2 (codes "x")
+    ∷ owned 1 3 (codes "y")
+    ∷ [])
+    (refers role.Subsetting 3 ((codes "x") ∷ [])
+    ∷ [])
+    [])
+    ∷ file_of (codes "b.sysml") (data_of 1
+    (root_element
+    ∷ thing kind.Part 0 (codes "x")
+    ∷ [])
+    (owned 0 1 (codes "x")
+    ∷ [])
+    []
+    [])
+    ∷ []
+
+pub inner_links : links_of inner
+    ≡ Some (to 0 2)
+    ∷ []
+unfolding least stage gather names_from visible_from
+inner_links = refl
+
+-- over the empty table that reference is decided
+pub inner_first_asking : (asked inner (λ k. None) (reference 0 0)).step
+    ≡ Done (to 0 2)
+unfolding least stage gather names_from visible_from
+inner_first_asking = refl
+
+-- over the least linking it looks at these
+pub inner_looks : sees inner (reference 0 0)
+    (of_file 0
+        ∷ [])
+    ≡ true
+unfolding least stage gather names_from visible_from
+inner_looks = refl

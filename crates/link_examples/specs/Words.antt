@@ -1,11 +1,10 @@
 -- Short words for small models, and what the rules of links give over them.
-use Rattle.std.specs.Prelude.{◌≡◌, ℕ, Bool, true, false, List, [], ◌∷◌, Option, None, Some, map, codes, nat_eq, refl}
-use Rattle.std.specs.List.{list_any}
+use Rattle.std.specs.Prelude.{ℕ, Bool, true, false, List, [], Option, None, Some, map, nat_eq, ◌&&◌}
+use Rattle.std.specs.List.{list_any, list_all}
 use Rattle.std.specs.Cmp.Lexicographic.{pointwise}
 use Rattle.demand_core.specs.Tables.{Decided}
 use Rattle.demand_core.specs.Computation.{Asked}
-use Rattle.demand_core.specs.Least.{least, stage, cyclic_on}
-use Rattle.demand_core.specs.Gather.{gather}
+use Rattle.demand_core.specs.Least.{least}
 use Rattle.demand_core.specs.declared.looks.Fact.{Fact}
 use Rattle.demand_core.specs.declared.looks.Fact.TheVariants.{Key, Outer}
 use Rattle.demand_core.specs.declared.step.Step.{Step}
@@ -16,13 +15,11 @@ use Rattle.element_store.specs.declared.numbers.MemberNo.{MemberNo}
 use Rattle.element_store.specs.declared.numbers.RefNo.{RefNo}
 use Rattle.element_store.specs.declared.outcome.Language.TheVariants.{Sysml}
 use Rattle.element_store.specs.declared.outcome.Role.{Role}
-use Rattle.element_store.specs.declared.outcome.Role.TheVariants as role
 use Rattle.element_store.specs.declared.outcome.Outcome.{Outcome}
-use Rattle.element_store.specs.declared.outcome.Outcome.TheVariants.{Linked, Absent, Ambiguous, Hidden, Cyclic}
+use Rattle.element_store.specs.declared.outcome.Outcome.TheVariants.{Linked}
 use Rattle.element_store.specs.declared.kind.Kind.{Kind}
-use Rattle.element_store.specs.declared.kind.Kind.TheVariants as kind
 use Rattle.element_store.specs.declared.kind.Visibility.{Visibility}
-use Rattle.element_store.specs.declared.kind.Visibility.TheVariants.{Public, Private, Protected}
+use Rattle.element_store.specs.declared.kind.Visibility.TheVariants.{Public}
 use Rattle.element_store.specs.declared.records.Element.{Element}
 use Rattle.element_store.specs.declared.records.Member.{Member}
 use Rattle.element_store.specs.declared.records.Target.TheVariants.{Owned, Alias}
@@ -35,8 +32,6 @@ use Rattle.link_model.specs.declared.keys.LinkFact.{LinkFact}
 use Rattle.link_model.specs.declared.keys.LinkFact.TheVariants.{File, RootName}
 use Rattle.link_model.specs.Keys.{same_file, same_key}
 use Rattle.link_model.specs.Outside.{seen_in, library_of, keys_of}
-use Rattle.link_model.specs.Names.{names_from}
-use Rattle.link_model.specs.Imports.{visible_from}
 use Rattle.link_model.specs.Asking.{path_elements}
 use Rattle.link_model.specs.Linking.{rule, link_meaning, find}
 
@@ -139,6 +134,22 @@ abbrev pub is_fact : LinkFact → Fact LinkKey LinkFact → Bool
 is_fact f (Key k) = false
 is_fact f (Outer g) = same_fact f g
 
--- whether the asking of a reference over the least linking looks at the fact
-abbrev pub looks_at : List StoredFile → LinkKey → LinkFact → Bool
-looks_at files k f = list_any (is_fact f) (asked files (least same_key (link_meaning files)) k).looks
+-- the fact is among these
+abbrev pub is_among : List (Fact LinkKey LinkFact) → Fact LinkKey LinkFact → Bool
+is_among fs (Key k) = list_any (is_key k) fs
+is_among fs (Outer f) = list_any (is_fact f) fs
+
+-- over the least linking the asking of a reference looks at these facts, and at no other
+abbrev pub sees : List StoredFile → LinkKey → List (Fact LinkKey LinkFact) → Bool
+sees files k fs = list_all (is_among fs) (asked files (least same_key (link_meaning files)) k).looks
+    && list_all (is_among (asked files (least same_key (link_meaning files)) k).looks) fs
+
+-- facts in short words: a file, a name of roots, a reference
+abbrev pub of_file : ℕ → Fact LinkKey LinkFact
+of_file f = Outer (File (record { 0 = f }))
+
+abbrev pub of_name : List ℕ → Fact LinkKey LinkFact
+of_name x = Outer (RootName x)
+
+abbrev pub of_key : ℕ → ℕ → Fact LinkKey LinkFact
+of_key f k = Key (reference f k)
