@@ -152,7 +152,7 @@ def shown(name, comment, book):
     return "\n".join(out)
 
 
-def row(name, comment, texts, finds=(), asked=None):
+def row(name, comment, texts, finds=(), over=()):
     """A book with its least linking, its kept keys, what is found in it, and one asking with its waits and looks."""
     book = Book(texts)
     keys = book.keys()
@@ -169,7 +169,7 @@ def row(name, comment, texts, finds=(), asked=None):
         segments = path.encode().split(b"::")
         out.append(claim("%s_finds_%s" % (name, path.replace("::", "_")),
                          "found %s %s" % (name, chain([code(s) for s in segments])), book.outcome(book.links.find(segments))))
-    k = keys[-1] if asked is None else keys[asked]
+    k = keys[-1]
     first = Linker(book.files, {}, STAGE, looks=True).ask(k)
     step = "Done (%s)" % book.outcome(first.value[0]) if first.done else \
         "Waits %s" % chain(["reference %d %d" % book.at(w) for w in sorted(first.waits)])
@@ -179,6 +179,15 @@ def row(name, comment, texts, finds=(), asked=None):
     facts = [book.fact(f) for f in sorted(book.links.looks_of(k), key=str)]
     out.append("-- over the least linking it looks at these")
     out.append(claim("%s_looks" % name, "sees %s (%s)\n    (%s)" % (name, ask, "\n        ∷ ".join(facts + ["[]"])), "true"))
+    if over:
+        decided = {(book.files.rank[f.encode()], i): book.links.table[book.files.rank[f.encode()], i] for f, i in over}
+        then = Linker(book.files, decided, STAGE, looks=True).ask(k)
+        table = "None"
+        for d in reversed(sorted(decided)):
+            table = "(cond (same_key k (reference %d %d)) (Some (%s))\n    %s)" % (book.at(d) + (book.outcome(decided[d]), table))
+        out.append("-- once some are decided, it waits on these, the least first")
+        out.append(claim("%s_later_asking" % name, "(asked %s\n    (λ k. %s) (%s)).step" % (name, table.strip("()") + ")", ask),
+                         "Waits %s" % chain(["reference %d %d" % book.at(w) for w in sorted(then.waits)])))
     return "\n".join(out)
 
 
@@ -195,11 +204,17 @@ NAMES = [
     ("hidden", "A private member that is hidden, and a protected one that is inherited",
      [("a.sysml", "package P { private part x; part def T { protected part y; } } part a :> P::x; "
        "package Q { private import P::T; part def U :> T { part z :> y; } }")]),
+    ("private_member", "A private member isn't inherited", [("a.sysml", "part def A { private part x; } part def B :> A { part y :> x; }")]),
+    ("elsewhere", "A member of one file that leads to an element of another: what is named is looked at",
+     [("a.sysml", "part a;"), ("b.sysml", "alias x for a;"), ("c.sysml", "part p :> x;")]),
     ("effective", "Effective names",
      [("a.sysml", "part def V { part <e> engine; } part def C :> V { part :>> engine; }")], ["C::engine", "C::e"]),
     ("aliases", "Aliases in a circle over two files", [("a.sysml", "alias a for b;"), ("b.sysml", "alias b for a;")]),
     ("several", "Two open aliases under one name: the least is that of the file whose name comes first",
      [("c.sysml", "alias x for z;"), ("a.sysml", "alias x for z;"), ("b.sysml", "part p :> x;")]),
+    ("met_later", "Waits that are met in another order than that of the references",
+     [("a.sysml", "part def A { part :>> u; }"), ("b.sysml", "part def B :> A { part :>> u; }"),
+      ("c.sysml", "part def C :> B { part y :> x; }")], [], [("b.sysml", 0), ("c.sysml", 0)]),
     ("inner", "A name that an inner tier has: the project tier isn't reached",
      [("a.sysml", "package P { part x; part y :> x; }"), ("b.sysml", "part x;")]),
 ]
@@ -222,6 +237,9 @@ WAYS = [
     ("recursive", "Recursive imports, and with all",
      [("a.sysml", "package P { part a; package Q { part b; private package R { part c; } } } "
        "package S { private import P::**; part u :> b; part v :> c; } package T { private import all P::**; part w :> c; }")]),
+    ("all_members", "An import with all brings private members, one without it doesn't",
+     [("a.sysml", "package P { private part x; } package T { private import all P::*; part w :> x; } "
+       "package U { private import P::*; part v :> x; }")]),
     ("by_name", "Roots of two files under one name: the order is that of the files' names, not of their numbers",
      [("c.sysml", "package A { part x; }"), ("b.sysml", "part p :> A::x;"), ("a.sysml", "package A { part x; }")]),
     ("chained", "A chain: the outcome carries the element of the path and that of the first step",
@@ -241,7 +259,7 @@ chained_path = refl
 
 
 USES = """
-use Rattle.std.specs.Prelude.{◌≡◌, true, false, List, [], ◌∷◌, None, Some, codes, refl}
+use Rattle.std.specs.Prelude.{◌≡◌, true, false, cond, List, [], ◌∷◌, None, Some, codes, refl}
 use Rattle.demand_core.specs.Least.{least, stage, cyclic_on}
 use Rattle.demand_core.specs.Gather.{gather}
 use Rattle.demand_core.specs.declared.step.Step.TheVariants.{Done, Waits}

@@ -1,5 +1,5 @@
 -- Worked rows: names, effective names, circles, ambiguous and hidden ones.
-use Rattle.std.specs.Prelude.{◌≡◌, true, false, List, [], ◌∷◌, None, Some, codes, refl}
+use Rattle.std.specs.Prelude.{◌≡◌, true, false, cond, List, [], ◌∷◌, None, Some, codes, refl}
 use Rattle.demand_core.specs.Least.{least, stage, cyclic_on}
 use Rattle.demand_core.specs.Gather.{gather}
 use Rattle.demand_core.specs.declared.step.Step.TheVariants.{Done, Waits}
@@ -292,6 +292,107 @@ pub hidden_looks : sees hidden (reference 0 3)
 unfolding least stage gather names_from visible_from
 hidden_looks = refl
 
+-- A private member isn't inherited
+--   a.sysml: part def A { private part x; } part def B :> A { part y :> x; }
+abbrev pub private_member : List StoredFile
+private_member = file_of (codes "a.sysml") (data_of 0
+    (root_element
+    ∷ thing kind.PartDef 0 (codes "A")
+    ∷ thing kind.Part 1 (codes "x")
+    ∷ thing kind.PartDef 0 (codes "B")
+    ∷ thing kind.Part 3 (codes "y")
+    ∷ [])
+    (owned 0 1 (codes "A")
+    ∷ owned_as Private 1 2 (Some (codes "x"))
+    ∷ owned 0 3 (codes "B")
+    ∷ owned 3 4 (codes "y")
+    ∷ [])
+    (refers role.Subclass 3 ((codes "A") ∷ [])
+    ∷ refers role.Subsetting 4 ((codes "x") ∷ [])
+    ∷ [])
+    [])
+    ∷ []
+
+pub private_member_links : links_of private_member
+    ≡ Some (to 0 1)
+    ∷ Some (Absent 1)
+    ∷ []
+unfolding least stage gather names_from visible_from
+private_member_links = refl
+
+-- over the empty table that reference waits
+pub private_member_first_asking : (asked private_member (λ k. None) (reference 0 1)).step
+    ≡ Waits (reference 0 0 ∷ [])
+unfolding least stage gather names_from visible_from
+private_member_first_asking = refl
+
+-- over the least linking it looks at these
+pub private_member_looks : sees private_member (reference 0 1)
+    (of_file 0
+        ∷ of_key 0 0
+        ∷ of_name (codes "x")
+        ∷ [])
+    ≡ true
+unfolding least stage gather names_from visible_from
+private_member_looks = refl
+
+-- A member of one file that leads to an element of another: what is named is looked at
+--   a.sysml: part a;
+--   b.sysml: alias x for a;
+--   c.sysml: part p :> x;
+abbrev pub elsewhere : List StoredFile
+elsewhere = file_of (codes "a.sysml") (data_of 0
+    (root_element
+    ∷ thing kind.Part 0 (codes "a")
+    ∷ [])
+    (owned 0 1 (codes "a")
+    ∷ [])
+    []
+    [])
+    ∷ file_of (codes "b.sysml") (data_of 1
+    (root_element
+    ∷ [])
+    (alias 0 0 (codes "x")
+    ∷ [])
+    (refers role.Alias 0 ((codes "a") ∷ [])
+    ∷ [])
+    [])
+    ∷ file_of (codes "c.sysml") (data_of 2
+    (root_element
+    ∷ thing kind.Part 0 (codes "p")
+    ∷ [])
+    (owned 0 1 (codes "p")
+    ∷ [])
+    (refers role.Subsetting 1 ((codes "x") ∷ [])
+    ∷ [])
+    [])
+    ∷ []
+
+pub elsewhere_links : links_of elsewhere
+    ≡ Some (to 0 1)
+    ∷ Some (to 0 1)
+    ∷ []
+unfolding least stage gather names_from visible_from
+elsewhere_links = refl
+
+-- over the empty table that reference waits
+pub elsewhere_first_asking : (asked elsewhere (λ k. None) (reference 2 0)).step
+    ≡ Waits (reference 1 0 ∷ [])
+unfolding least stage gather names_from visible_from
+elsewhere_first_asking = refl
+
+-- over the least linking it looks at these
+pub elsewhere_looks : sees elsewhere (reference 2 0)
+    (of_file 0
+        ∷ of_file 1
+        ∷ of_file 2
+        ∷ of_key 1 0
+        ∷ of_name (codes "x")
+        ∷ [])
+    ≡ true
+unfolding least stage gather names_from visible_from
+elsewhere_looks = refl
+
 -- Effective names
 --   a.sysml: part def V { part <e> engine; } part def C :> V { part :>> engine; }
 abbrev pub effective : List StoredFile
@@ -459,6 +560,88 @@ pub several_looks : sees several (reference 2 0)
     ≡ true
 unfolding least stage gather names_from visible_from
 several_looks = refl
+
+-- Waits that are met in another order than that of the references
+--   a.sysml: part def A { part :>> u; }
+--   b.sysml: part def B :> A { part :>> u; }
+--   c.sysml: part def C :> B { part y :> x; }
+abbrev pub met_later : List StoredFile
+met_later = file_of (codes "a.sysml") (data_of 0
+    (root_element
+    ∷ thing kind.PartDef 0 (codes "A")
+    ∷ nameless kind.Part 1
+    ∷ [])
+    (owned 0 1 (codes "A")
+    ∷ owned_as Public 1 2 None
+    ∷ [])
+    (refers role.Redefinition 2 ((codes "u") ∷ [])
+    ∷ [])
+    [])
+    ∷ file_of (codes "b.sysml") (data_of 1
+    (root_element
+    ∷ thing kind.PartDef 0 (codes "B")
+    ∷ nameless kind.Part 1
+    ∷ [])
+    (owned 0 1 (codes "B")
+    ∷ owned_as Public 1 2 None
+    ∷ [])
+    (refers role.Subclass 1 ((codes "A") ∷ [])
+    ∷ refers role.Redefinition 2 ((codes "u") ∷ [])
+    ∷ [])
+    [])
+    ∷ file_of (codes "c.sysml") (data_of 2
+    (root_element
+    ∷ thing kind.PartDef 0 (codes "C")
+    ∷ thing kind.Part 1 (codes "y")
+    ∷ [])
+    (owned 0 1 (codes "C")
+    ∷ owned 1 2 (codes "y")
+    ∷ [])
+    (refers role.Subclass 1 ((codes "B") ∷ [])
+    ∷ refers role.Subsetting 2 ((codes "x") ∷ [])
+    ∷ [])
+    [])
+    ∷ []
+
+pub met_later_links : links_of met_later
+    ≡ Some (Absent 1)
+    ∷ Some (to 0 1)
+    ∷ Some (Absent 1)
+    ∷ Some (to 1 1)
+    ∷ Some (Absent 1)
+    ∷ []
+unfolding least stage gather names_from visible_from
+met_later_links = refl
+
+-- over the empty table that reference waits
+pub met_later_first_asking : (asked met_later (λ k. None) (reference 2 1)).step
+    ≡ Waits (reference 2 0 ∷ [])
+unfolding least stage gather names_from visible_from
+met_later_first_asking = refl
+
+-- over the least linking it looks at these
+pub met_later_looks : sees met_later (reference 2 1)
+    (of_file 0
+        ∷ of_file 1
+        ∷ of_file 2
+        ∷ of_key 0 0
+        ∷ of_key 1 0
+        ∷ of_key 1 1
+        ∷ of_key 2 0
+        ∷ of_name (codes "x")
+        ∷ [])
+    ≡ true
+unfolding least stage gather names_from visible_from
+met_later_looks = refl
+
+-- once some are decided, it waits on these, the least first
+pub met_later_later_asking : (asked met_later
+    (λ k. cond (same_key k (reference 1 0)) (Some (to 0 1))
+    (cond (same_key k (reference 2 0)) (Some (to 1 1))
+    None)) (reference 2 1)).step
+    ≡ Waits (reference 0 0 ∷ reference 1 1 ∷ [])
+unfolding least stage gather names_from visible_from
+met_later_later_asking = refl
 
 -- A name that an inner tier has: the project tier isn't reached
 --   a.sysml: package P { part x; part y :> x; }

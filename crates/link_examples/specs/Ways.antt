@@ -396,6 +396,61 @@ pub recursive_looks : sees recursive (reference 0 4)
 unfolding least stage gather names_from visible_from
 recursive_looks = refl
 
+-- An import with all brings private members, one without it doesn't
+--   a.sysml: package P { private part x; } package T { private import all P::*; part w :> x; }
+--     package U { private import P::*; part v :> x; }
+abbrev pub all_members : List StoredFile
+all_members = file_of (codes "a.sysml") (data_of 0
+    (root_element
+    ∷ thing kind.Package 0 (codes "P")
+    ∷ thing kind.Part 1 (codes "x")
+    ∷ thing kind.Package 0 (codes "T")
+    ∷ thing kind.Part 3 (codes "w")
+    ∷ thing kind.Package 0 (codes "U")
+    ∷ thing kind.Part 5 (codes "v")
+    ∷ [])
+    (owned 0 1 (codes "P")
+    ∷ owned_as Private 1 2 (Some (codes "x"))
+    ∷ owned 0 3 (codes "T")
+    ∷ owned 3 4 (codes "w")
+    ∷ owned 0 5 (codes "U")
+    ∷ owned 5 6 (codes "v")
+    ∷ [])
+    (refers role.Import 3 ((codes "P") ∷ [])
+    ∷ refers role.Subsetting 4 ((codes "x") ∷ [])
+    ∷ refers role.Import 5 ((codes "P") ∷ [])
+    ∷ refers role.Subsetting 6 ((codes "x") ∷ [])
+    ∷ [])
+    (record (brings Private 3 0 true) { all = true }
+    ∷ brings Private 5 2 true
+    ∷ []))
+    ∷ []
+
+pub all_members_links : links_of all_members
+    ≡ Some (to 0 1)
+    ∷ Some (to 0 2)
+    ∷ Some (to 0 1)
+    ∷ Some (Absent 1)
+    ∷ []
+unfolding least stage gather names_from visible_from
+all_members_links = refl
+
+-- over the empty table that reference waits
+pub all_members_first_asking : (asked all_members (λ k. None) (reference 0 3)).step
+    ≡ Waits (reference 0 2 ∷ [])
+unfolding least stage gather names_from visible_from
+all_members_first_asking = refl
+
+-- over the least linking it looks at these
+pub all_members_looks : sees all_members (reference 0 3)
+    (of_file 0
+        ∷ of_key 0 2
+        ∷ of_name (codes "x")
+        ∷ [])
+    ≡ true
+unfolding least stage gather names_from visible_from
+all_members_looks = refl
+
 -- Roots of two files under one name: the order is that of the files' names, not of their numbers
 --   c.sysml: package A { part x; }
 --   b.sysml: part p :> A::x;
