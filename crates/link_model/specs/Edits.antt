@@ -1,5 +1,5 @@
--- What an edit of one project file may change, and what a new name changes: the file, and what stands under the names of
--- its public root members. What looked at neither is kept.
+-- What an edit of one project file may change: the file, and what stands under the names of its public root members.
+-- What looked at neither is kept, and over a new name too.
 use Rattle.std.specs.Prelude.{◌≡◌, ◌++◌, ◌∷◌, ℕ, Bool, true, false, List, [], Option, None, Some, length, map, slice_get}
 use Rattle.linker_base.specs.Members.{IsMember}
 use Rattle.demand_core.specs.Computed.{world}

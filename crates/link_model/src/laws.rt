@@ -33,15 +33,16 @@ pub fn least_links_stand_in_all()
 /// neither at the file nor at a name of its public root members asks the same; references that look
 /// at none of these, directly or through other references, keep outcome, waits and looks.
 pub fn edits_keep_links()
-    ensures rules { (files : List StoredFile) (f : ℕ) (s : StoredFile) (m : Option Data) → IsEdit files f s m
-        → KeepsRules files f s m }
-    ensures outcomes { (files : List StoredFile) (f : ℕ) (s : StoredFile) (m : Option Data) → IsEdit files f s m
-        → KeepsOutcomes files f s m }
-    ensures askings { (files : List StoredFile) (f : ℕ) (s : StoredFile) (m : Option Data) → IsEdit files f s m
-        → KeepsAskings files f s m }
+    ensures rules { (files : List StoredFile) (f : ℕ) (s : StoredFile) (m : Option Data)
+        → IsEdit files f s m → KeepsRules files f s m }
+    ensures outcomes { (files : List StoredFile) (f : ℕ) (s : StoredFile) (m : Option Data)
+        → IsEdit files f s m → KeepsOutcomes files f s m }
+    ensures askings { (files : List StoredFile) (f : ℕ) (s : StoredFile) (m : Option Data)
+        → IsEdit files f s m → KeepsAskings files f s m }
 {}
 
 /// A law: a new name without a text changes nothing that was looked at.
 pub fn arrivals_keep_links()
-    ensures { (files : List StoredFile) (s : StoredFile) → IsArrival files s → KeepsOverArrival files s }
+    ensures { (files : List StoredFile) (s : StoredFile) → IsArrival files s
+        → KeepsOverArrival files s }
 {}
