@@ -273,14 +273,17 @@ use Rattle.link_model.specs.Keys.{same_key}
 use Rattle.link_model.specs.Names.{names_from}
 use Rattle.link_model.specs.Imports.{visible_from}
 use Rattle.link_model.specs.Linking.{link_meaning}
+use Rattle.link_model.specs.Written.{WRITTEN}
 use Rattle.link_examples.specs.Words.{WORDS}
 """.strip()
 
 
 def head(title, body):
     """The imports of a file of rows: the names that its text has."""
-    words = open(os.path.join(TOP, "crates/link_examples/specs/Words.antt")).read().split("\n")
-    uses = USES.replace("WORDS", ", ".join(sorted({line.split()[2] for line in words if line.startswith("abbrev pub ")})))
+    uses = USES
+    for mark, path in (("WRITTEN", "link_model/specs/Written"), ("WORDS", "link_examples/specs/Words")):
+        words = open(os.path.join(TOP, "crates", path + ".antt")).read().split("\n")
+        uses = uses.replace(mark, ", ".join(sorted({line.split()[2] for line in words if line.startswith("abbrev pub ")})))
     code_lines = "\n".join(line for line in body.split("\n") if not line.startswith("--"))
     marks = set(re.findall(r"[A-Za-z_][A-Za-z_0-9]*|[^\sA-Za-z_0-9()]+", code_lines))
     out = ["-- " + title]

@@ -13,7 +13,8 @@ use Rattle.link_model.specs.Keys.{same_key}
 use Rattle.link_model.specs.Names.{names_from}
 use Rattle.link_model.specs.Imports.{visible_from}
 use Rattle.link_model.specs.Linking.{link_meaning}
-use Rattle.link_examples.specs.Words.{alias, asked, brings, by_member, data_of, file_of, found, links_of, nameless, of_file, of_key, of_name, owned, owned_as, reference, refers, sees, thing, to}
+use Rattle.link_model.specs.Written.{alias, brings, by_member, data_of, file_of, links_of, nameless, owned, owned_as, reference, refers, thing, to}
+use Rattle.link_examples.specs.Words.{asked, found, of_file, of_key, of_name, sees}
 
 -- A type that specialises itself, and two that specialise each other
 --   a.sysml: part def A :> A;

@@ -13,7 +13,8 @@ use Rattle.link_model.specs.Keys.{same_key}
 use Rattle.link_model.specs.Names.{names_from}
 use Rattle.link_model.specs.Imports.{visible_from}
 use Rattle.link_model.specs.Linking.{link_meaning}
-use Rattle.link_examples.specs.Words.{asked, brings, by_member, data_of, element, file_of, found, gone_file, library_file, links_of, nameless, of_file, of_key, of_name, owned, owned_as, path_of, reference, refers, sees, thing, to}
+use Rattle.link_model.specs.Written.{brings, by_member, data_of, element, file_of, gone_file, library_file, links_of, nameless, owned, owned_as, reference, refers, thing, to}
+use Rattle.link_examples.specs.Words.{asked, found, of_file, of_key, of_name, path_of, sees}
 
 -- Inherited features and their redefinitions
 --   a.sysml: part def A { part x; } part def B :> A { part y :>> x; } part def D :> B { part z :>> A::x; }

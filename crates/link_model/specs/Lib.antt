@@ -9,3 +9,4 @@ pub mod Asking
 pub mod Linking
 pub mod Settled
 pub mod Edits
+pub mod Written
