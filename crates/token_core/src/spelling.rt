@@ -7,7 +7,7 @@ ghost use Rattle.token_core.specs.Reading.{name_meaning, string_meaning, IsSpell
 ghost use Rattle.token_core.specs.Spelling.{escape_letter, is_basic_name, name_spelling, quoted, string_spelling, written, IsOneToken};
 
 use crate::token::TokenKind;
-use crate::{scan, words};
+use crate::{classes, words};
 use element_store::{Language, Name, Text};
 use linker_base::NoMemory;
 use std::alloc::Global;
@@ -59,7 +59,7 @@ fn quote_bytes(alloc: Global, bytes: &[u8], quote: u8) -> Result<Vec<u8>, NoMemo
 fn are_word_bytes(bytes: &[u8]) -> bool
     ensures { result ≡ list_all is_word bytes.now }
 {
-    bytes.iter().all(|byte| scan::is_word_byte(*byte))
+    bytes.iter().all(|byte| classes::is_word_byte(*byte))
 }
 
 /// Whether it is a letter or `_`, and then letters, digits and `_`.
@@ -67,7 +67,7 @@ fn is_basic(bytes: &[u8]) -> bool
     ensures { result ≡ is_basic_name bytes.now }
 {
     match bytes {
-        [first, rest @ ..] => scan::is_letter_byte(*first) && are_word_bytes(rest),
+        [first, rest @ ..] => classes::is_letter_byte(*first) && are_word_bytes(rest),
         [] => false,
     }
 }

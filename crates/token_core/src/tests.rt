@@ -6,8 +6,8 @@ ghost use Rattle.token_core.specs.Reading.{IsTokenOf};
 ghost use Rattle.token_core.specs.Terminals.{HasNumber};
 
 use crate::{
-    LexFault, Token, TokenKind, Tokens, integer_of, lex, name_of, spell_name, spell_string,
-    string_of, terminal_of,
+    LexFault, Token, TokenKind, Tokens, comment_of, integer_of, lex, name_of, spell_name,
+    spell_string, string_of, terminal_of,
 };
 use element_store::{Language, Text};
 use std::alloc::Global;
@@ -76,6 +76,12 @@ fn respelt_string(alloc: Global, text: &[u8], language: Language) -> Option<Text
     let token = first_token(alloc, text, language, TokenKind::Quote)?;
     let string = string_of(alloc, text, token).ok()?;
     spell_string(alloc, &string).ok()
+}
+
+/// What the comment says that the text begins with.
+fn comment(alloc: Global, text: &[u8]) -> Option<Text> {
+    let token = first_token(alloc, text, Language::Sysml, TokenKind::Comment)?;
+    comment_of(alloc, text, token).ok()
 }
 
 /// The integer that the text begins with, None where it is too great.
@@ -254,6 +260,14 @@ fn names_and_strings_are_spelt_canonically(rt: HostRuntime) {
             b"\"it's \\\"\xC3\xA9\""
         )
     );
+}
+
+#[test]
+fn comments_are_what_is_between_their_marks(rt: HostRuntime) {
+    assert!(rt; is_text(comment(rt.alloc(), b"/**/"), b""));
+    assert!(rt; is_text(comment(rt.alloc(), b"/* a\r\n **/ b"), b" a\r\n *"));
+    assert!(rt; is_text(comment(rt.alloc(), b"/*/* \xC3\xA9*/"), b"/* \xC3\xA9"));
+    assert!(rt; comment(rt.alloc(), b"//* a */").is_none());
 }
 
 #[test]
