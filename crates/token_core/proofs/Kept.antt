@@ -14,7 +14,7 @@ use Rattle.token_core.specs.declared.token.Token.{Token}
 use Rattle.token_core.specs.Pieces.{IsPiece}
 use Rattle.token_core.specs.Lex.{Piece, Cut, Lex, StandApart, token_at, tokens_from}
 use Rattle.token_core.specs.Laws.{TokensRise}
-use Rattle.token_core.specs.Reading.{IsTokenOf, AreTokensOf}
+use Rattle.token_core.specs.Reading.{IsTokenOf}
 use Rattle.token_core.proofs.Lists.{no_empty_sign}
 
 -- a piece at a place of the text
@@ -74,13 +74,20 @@ token_some language Comment [] more i = absurd i
 token_some language (Sign n) [] more i = let none : None ≡ Some n = no_empty_sign [] (omega arith) ∙ i.0 in absurd (cc)
 token_some language (Word n) [] more i = absurd i.0
 
-apart_piece : (language : Language) (kind : PieceKind) (here at : ℕ) (bytes more : List ℕ) (ts : List Token) (there : ℕ) → here ≤ at → IsPiece language kind bytes more → ((from : ℕ) → from ≤ at + length bytes → StandApart from ts there) → StandApart here (token_at kind at (length bytes) ++ ts) there
+apart_piece :
+    (language : Language) (kind : PieceKind) (here at : ℕ) (bytes more : List ℕ) (ts : List Token) (there : ℕ)
+    → here ≤ at → IsPiece language kind bytes more
+    → ((from : ℕ) → from ≤ at + length bytes → StandApart from ts there)
+    → StandApart here (token_at kind at (length bytes) ++ ts) there
 apart_piece language Space here at bytes more ts there le i rest = rest here (omega arith)
 apart_piece language LineNote here at bytes more ts there le i rest = rest here (omega arith)
 apart_piece language BlockNote here at bytes more ts there le i rest = rest here (omega arith)
-apart_piece language (Kept kind) here at bytes more ts there le i rest = (le, omega (arith, token_some language kind bytes more i), rest (at + length bytes) (omega arith))
+apart_piece language (Kept kind) here at bytes more ts there le i rest =
+    (le, omega (arith, token_some language kind bytes more i), rest (at + length bytes) (omega arith))
 
-apart_from : (language : Language) (here at : ℕ) (ps : List Piece) (text : List ℕ) → here ≤ at → Cut language ps text [] → StandApart here (tokens_from at ps) (at + length text)
+apart_from :
+    (language : Language) (here at : ℕ) (ps : List Piece) (text : List ℕ)
+    → here ≤ at → Cut language ps text [] → StandApart here (tokens_from at ps) (at + length text)
 apart_from language here at [] text le c = omega arith
 apart_from language here at (p ∷ ps) text le c =
     let size : at + length text ≡ at + length p.bytes + length c.0 = omega (arith, ap length c.1, length-append p.bytes c.0) in

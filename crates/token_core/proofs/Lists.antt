@@ -1,5 +1,5 @@
 -- The lexer's statics are the lists of the definitions, found by evaluation.
-use Rattle.std.proofs.Common.{◌≡◌, ℕ, ◌+◌, ◌<◌, ◌≤◌, Bool, true, false, List, [], ◌∷◌, length, drop, map, get_or, refl, inl, inr, ap, sym, subst, ◌∙◌, arith, zero-add}
+use Rattle.std.proofs.Common.{◌≡◌, ℕ, ◌+◌, ◌-◌, ◌<◌, ◌≤◌, Bool, true, false, List, [], ◌∷◌, length, drop, map, get_or, refl, inl, inr, ap, sym, subst, ◌∙◌, arith, zero-add}
 use Rattle.std.specs.Prelude.{◌==◌, not, None}
 use Rattle.std.specs.List.{range_with_len, list_all}
 use Rattle.std.proofs.lemmas.Bool.{eqb-true}
@@ -47,13 +47,24 @@ unfolding are_starts
 starts_count list starts e = eqb-true (length starts) 27 (both_true (length starts == 27) _ e).0
 
 -- the words with one letter stand between the letter's place and the next
-pub part_at : (list : List (List ℕ)) (starts : List ℕ) (k : ℕ) → are_starts list starts ≡ true → k < 26 → is_part list (97 + k) (get_or starts k 0) (get_or starts (k + 1) 0) ≡ true
+part_at :
+    (list : List (List ℕ)) (starts : List ℕ) (k : ℕ)
+    → are_starts list starts ≡ true → k < 26 → is_part list (97 + k) (get_or starts k 0) (get_or starts (k + 1) 0) ≡ true
 unfolding are_starts
 part_at list starts k e lt =
     let p : ℕ → Bool = λ i. is_part list (97 + i) (get_or starts i 0) (get_or starts (i + 1) 0) in
     let all : list_all p (range_with_len 0 26) ≡ true = (both_true (length starts == 27) (list_all p (range_with_len 0 26)) e).1 in
     let here : p (get_or (range_with_len 0 26) k 0) ≡ true = all_at p (range_with_len 0 26) k 0 all (omega (arith, length-range_with_len 0 26)) in
     subst (λ i. p i ≡ true) (get_or-range_with_len 0 26 k 0 lt ∙ zero-add k) here
+
+-- so the words with a lowercase letter stand between two places of the table
+pub letter_part :
+    (list : List (List ℕ)) (starts : List ℕ) (b : ℕ)
+    → are_starts list starts ≡ true → 97 ≤ b → b ≤ 122
+    → is_part list b (get_or starts (b - 97) 0) (get_or starts (b - 97 + 1) 0) ≡ true
+letter_part list starts b e low high =
+    subst (λ n. is_part list n (get_or starts (b - 97) 0) (get_or starts (b - 97 + 1) 0) ≡ true) (omega arith) (
+    part_at list starts (b - 97) e (omega arith))
 
 abbrev begins_low : List ℕ → Bool
 begins_low [] = false

@@ -106,7 +106,9 @@ close_last (b ∷ bs) (inl i) = ([], ap (λ x. x ∷ bs) i.0 ∙ ap (λ xs. 42 �
 close_last (b ∷ bs) (inr i) = let r = close_last bs i.1 in (b ∷ r.0, ap (λ xs. b ∷ xs) r.1)
 
 -- a comment is its two marks and what stands between
-pub comment_whole : (language : Language) (bytes more : List ℕ) → IsPiece language (Kept Comment) bytes more → (front : List ℕ) × (bytes ≡ 47 ∷ 42 ∷ (front ++ 42 ∷ 47 ∷ []))
+pub comment_whole :
+    (language : Language) (bytes more : List ℕ)
+    → IsPiece language (Kept Comment) bytes more → (front : List ℕ) × (bytes ≡ 47 ∷ 42 ∷ (front ++ 42 ∷ 47 ∷ []))
 comment_whole language [] more i = absurd i
 comment_whole language (a ∷ []) more i = absurd i
 comment_whole language (a ∷ b ∷ bs) more i =
@@ -133,7 +135,9 @@ front_utf8 front rest u =
     let whole : List ℕ = front ++ 42 ∷ rest in
     let size : length whole ≡ length front + (1 + length rest) = omega (arith, length-append front (42 ∷ rest)) in
     let here : get_or whole (length front) 0 ≡ 42 = get_or-append_seam front 42 rest 0 in
-    subst IsUtf8 (take-append_seam front (42 ∷ rest)) (IsUtf8-take whole (length front) u (IsCharBoundary-before_ascii whole (length front) (omega (arith, size)) (subst (λ x. x < 128) (sym here) (omega arith))))
+    let low : get_or whole (length front) 0 < 128 = subst (λ x. x < 128) (sym here) (omega arith) in
+    subst IsUtf8 (take-append_seam front (42 ∷ rest)) (
+    IsUtf8-take whole (length front) u (IsCharBoundary-before_ascii whole (length front) (omega (arith, size)) low))
 
 -- what a comment says is UTF-8
 pub comment_utf8 : (text : List ℕ) (t : Token) → IsTokenOf Comment text t → IsUtf8 (comment_meaning (bytes_of text t))
@@ -141,7 +145,9 @@ comment_utf8 text t h =
     let w = comment_whole h.language (bytes_of text t) (drop t.upto text) h.piece in
     let rest : List ℕ = drop t.upto text in
     let after : List ℕ = w.0 ++ 42 ∷ (47 ∷ rest) in
-    let here : drop t.from text ≡ 47 ∷ 42 ∷ after = drop_split text t.from t.upto h.ordered ∙ (ap (λ xs. xs ++ rest) w.1 ∙ ap (λ xs. 47 ∷ 42 ∷ xs) (append_assoc w.0 (42 ∷ 47 ∷ []) rest)) in
+    let here : drop t.from text ≡ 47 ∷ 42 ∷ after =
+    drop_split text t.from t.upto h.ordered
+    ∙ (ap (λ xs. xs ++ rest) w.1 ∙ ap (λ xs. 47 ∷ 42 ∷ xs) (append_assoc w.0 (42 ∷ 47 ∷ []) rest)) in
     let first : IsUtf8 (42 ∷ after) = after_first text t.from 47 (42 ∷ after) h.utf8 (omega arith) here in
     let second : IsUtf8 after = after_first (42 ∷ after) 0 42 after first (omega arith) refl in
     subst IsUtf8 (sym (ap comment_meaning w.1 ∙ front_meaning w.0)) (front_utf8 w.0 (47 ∷ rest) second)

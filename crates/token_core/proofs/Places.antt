@@ -62,7 +62,10 @@ from_none None = refl
 from_none (Some k) = ap Some (omega arith)
 
 -- words in front that begin with another byte are passed over
-behind : (b : ℕ) (more : List ℕ) (front rest : List (List ℕ)) → none_begins b front ≡ true → place_in (front ++ rest) (b ∷ more) ≡ option_map (λ k. length front + k) (place_in rest (b ∷ more))
+behind :
+    (b : ℕ) (more : List ℕ) (front rest : List (List ℕ))
+    → none_begins b front ≡ true
+    → place_in (front ++ rest) (b ∷ more) ≡ option_map (λ k. length front + k) (place_in rest (b ∷ more))
 behind b more [] rest e = from_none (place_in rest (b ∷ more))
 behind b more (w ∷ front) rest e =
     let h = both_true (not (begins b w)) (none_begins b front) e in
@@ -96,7 +99,9 @@ part_is_enough list b from upto e = record { within = size; enough = λ more. ap
   inside = leb-true upto (length list) rest.0
 
   size : from + length (slice_range list from upto) ≤ length list
-  size = omega (arith, ordered, inside, length-drop from list, length-take-le (upto - from) (drop from list) (omega (arith, ordered, inside, length-drop from list)))
+  size =
+      let few : upto - from ≤ length (drop from list) = omega (arith, ordered, inside, length-drop from list) in
+      omega (arith, ordered, inside, length-drop from list, length-take-le (upto - from) (drop from list) few)
 
   front : length (take from list) ≡ from
   front = length-take-le from list (omega (arith, ordered, inside))
@@ -104,7 +109,10 @@ part_is_enough list b from upto e = record { within = size; enough = λ more. ap
   whole : list ≡ take from list ++ (slice_range list from upto ++ drop upto list)
   whole = sym (take-append-drop from list) ∙ ap (λ l. take from list ++ l) (drop_split list from upto ordered)
 
-  inner : (more : List ℕ) → place_in (take from list ++ (slice_range list from upto ++ drop upto list)) (b ∷ more) ≡ option_map (λ n. from + n) (place_in (slice_range list from upto) (b ∷ more))
+  inner :
+      (more : List ℕ)
+      → place_in (take from list ++ (slice_range list from upto ++ drop upto list)) (b ∷ more)
+      ≡ option_map (λ n. from + n) (place_in (slice_range list from upto) (b ∷ more))
   inner more =
       behind b more (take from list) (slice_range list from upto ++ drop upto list) ends.0
       ∙ (ap (λ n. option_map (λ k. n + k) (place_in (slice_range list from upto ++ drop upto list) (b ∷ more))) front
@@ -114,21 +122,32 @@ part_is_enough list b from upto e = record { within = size; enough = λ more. ap
 pub no_part : (list : List (List ℕ)) (b : ℕ) → none_begins b list ≡ true → IsPartFor list b 0 []
 no_part list b e = record { within = omega arith; enough = λ more. none_there b more list e }
 
-prefix_mapped : (p : List ℕ → Bool) (ws : List (Bor (List ℕ))) → prefix_len p (map (λ (w : Bor (List ℕ)). w.now) ws) ≡ prefix_len (λ (w : Bor (List ℕ)). p w.now) ws
+prefix_mapped :
+    (p : List ℕ → Bool) (ws : List (Bor (List ℕ)))
+    → prefix_len p (map (λ (w : Bor (List ℕ)). w.now) ws) ≡ prefix_len (λ (w : Bor (List ℕ)). p w.now) ws
 prefix_mapped p [] = refl
 prefix_mapped p (w ∷ ws) = rw (prefix_mapped p ws) refl
 
 -- looking in a list of lent words is looking in the list of the words
-pub place_lent : (ws : List (Bor (List ℕ))) (bytes : List ℕ) → position (λ (w : Bor (List ℕ)). bytes_eq w.now bytes) ws ≡ place_in (map (λ (w : Bor (List ℕ)). w.now) ws) bytes
+pub place_lent :
+    (ws : List (Bor (List ℕ))) (bytes : List ℕ)
+    → position (λ (w : Bor (List ℕ)). bytes_eq w.now bytes) ws ≡ place_in (map (λ (w : Bor (List ℕ)). w.now) ws) bytes
 place_lent ws bytes =
+    let at : ℕ = prefix_len (λ x. not (bytes_eq x bytes)) (map (λ (w : Bor (List ℕ)). w.now) ws) in
     ap (λ n. cond (nat_lt n (length ws)) (Some n) None) (sym (prefix_mapped (λ x. not (bytes_eq x bytes)) ws))
-    ∙ ap (λ n. cond (nat_lt (prefix_len (λ x. not (bytes_eq x bytes)) (map (λ (w : Bor (List ℕ)). w.now) ws)) n) (Some (prefix_len (λ x. not (bytes_eq x bytes)) (map (λ (w : Bor (List ℕ)). w.now) ws))) None) (sym (length-map ws (λ (w : Bor (List ℕ)). w.now)))
+    ∙ ap (λ n. cond (nat_lt at n) (Some at) None) (sym (length-map ws (λ (w : Bor (List ℕ)). w.now)))
 
 -- so is a part of a list of lent words
-pub part_lent : (ws : List (Bor (List ℕ))) (list : List (List ℕ)) (b from upto : ℕ) → map (λ (w : Bor (List ℕ)). w.now) ws ≡ list → is_part list b from upto ≡ true → IsPartFor list b from (map (λ (w : Bor (List ℕ)). w.now) (slice_range ws from upto))
+pub part_lent :
+    (ws : List (Bor (List ℕ))) (list : List (List ℕ)) (b from upto : ℕ)
+    → map (λ (w : Bor (List ℕ)). w.now) ws ≡ list
+    → is_part list b from upto ≡ true
+    → IsPartFor list b from (map (λ (w : Bor (List ℕ)). w.now) (slice_range ws from upto))
 part_lent ws list b from upto same e =
     let f : Bor (List ℕ) → List ℕ = λ w. w.now in
-    let here : slice_range list from upto ≡ map f (slice_range ws from upto) = ap (λ l. slice_range l from upto) (sym same) ∙ (ap (take (upto - from)) (drop-map f from ws) ∙ take-map f (upto - from) (drop from ws)) in
+    let here : slice_range list from upto ≡ map f (slice_range ws from upto) =
+    ap (λ l. slice_range l from upto) (sym same)
+    ∙ (ap (take (upto - from)) (drop-map f from ws) ∙ take-map f (upto - from) (drop from ws)) in
     subst (IsPartFor list b from) here (part_is_enough list b from upto e)
 
 -- a part is within its list
@@ -139,6 +158,10 @@ part_within list b from upto e =
     (leb-true from upto h.0, leb-true upto (length list) k.0)
 
 -- looking in a part that is enough for the first of the bytes
-pub part_place : (list : List (List ℕ)) (bytes : List ℕ) (from : ℕ) (part : List (List ℕ)) → 1 ≤ length bytes → IsPartFor list (get_or bytes 0 0) from part → place_in list bytes ≡ option_map (λ n. from + n) (place_in part bytes)
+pub part_place :
+    (list : List (List ℕ)) (bytes : List ℕ) (from : ℕ) (part : List (List ℕ))
+    → 1 ≤ length bytes
+    → IsPartFor list (get_or bytes 0 0) from part
+    → place_in list bytes ≡ option_map (λ n. from + n) (place_in part bytes)
 part_place list [] from part some h = absurd (omega arith)
 part_place list (b ∷ more) from part some h = h.enough more

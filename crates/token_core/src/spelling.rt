@@ -30,7 +30,8 @@ fn escape_letter_of(byte: u8, quote: u8) -> Option<u8>
 
 /// Appends a byte as it is written between these quotes.
 fn push_written(spelling: &mut Vec<u8>, byte: u8, quote: u8) -> Result<(), NoMemory>
-    ensures { OnOk result (spelling.new.items ≡ spelling.old.items ++ written byte (escape_letter quote byte)) }
+    ensures { let bytes = written byte (escape_letter quote byte) in
+        OnOk result (spelling.new.items ≡ spelling.old.items ++ bytes) }
 {
     match escape_letter_of(byte, quote) {
         Some(letter) => {

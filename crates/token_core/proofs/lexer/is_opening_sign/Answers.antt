@@ -1,4 +1,4 @@
-use Rattle.std.proofs.Common.{arith, rules}
+use Rattle.std.proofs.Common.{arith}
 use Rattle.std.proofs.lemmas.Grind.{common_steps}
 use Rattle.token_core.proofs.Nesting.{opening_sign}
 use Rattle.token_core.proofs.lexer.is_opening_sign.Goals as goal

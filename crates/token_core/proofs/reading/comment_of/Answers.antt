@@ -9,10 +9,12 @@ inside-bytes-requires c = subst (λ (bs : List ℕ). 4 ≤ length bs) (sym c.tok
 
 pub returns-clause-utf8 : goal.returns-clause-utf8
 returns-clause-utf8 c =
-    let e : c.of.result ≡ comment_meaning (bytes_of c.args.text.now c.args.token) = c.of.ensures ∙ (c.in_ok-from_slice.ensures.items ∙ (c.inside-bytes.ensures ∙ ap comment_meaning c.token_bytes.ensures)) in
+    let e : c.of.result ≡ comment_meaning (bytes_of c.args.text.now c.args.token) =
+    c.of.ensures ∙ (c.in_ok-from_slice.ensures.items ∙ (c.inside-bytes.ensures ∙ ap comment_meaning c.token_bytes.ensures)) in
     subst IsUtf8 (sym e) (comment_utf8 c.args.text.now c.args.token c.requires)
 
 pub returns-clause-again : goal.returns-clause-again
 returns-clause-again c =
-    let e : c.of.result ≡ comment_meaning (bytes_of c.args.text.now c.args.token) = c.of.ensures ∙ (c.in_ok-from_slice.ensures.items ∙ (c.inside-bytes.ensures ∙ ap comment_meaning c.token_bytes.ensures)) in
+    let e : c.of.result ≡ comment_meaning (bytes_of c.args.text.now c.args.token) =
+    c.of.ensures ∙ (c.in_ok-from_slice.ensures.items ∙ (c.inside-bytes.ensures ∙ ap comment_meaning c.token_bytes.ensures)) in
     ap commented e ∙ comment_again c.args.text.now c.args.token c.requires

@@ -1,4 +1,4 @@
-use Rattle.std.proofs.Common.{sym, ap, ◌∙◌}
+use Rattle.std.proofs.Common.{ap, ◌∙◌}
 use Rattle.token_core.specs.declared.words.TheConstants.{KERML_STARTS, SYSML_STARTS}
 use Rattle.token_core.specs.Scan.{are_starts}
 use Rattle.token_core.specs.Words.{words}
