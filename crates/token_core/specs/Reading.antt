@@ -1,7 +1,7 @@
 -- What a token of a text stands for, after KerML's notes and comments (8.2.2.2), names (8.2.2.3), numeric values
 -- (8.2.2.4), string values (8.2.2.5).
-use Rattle.std.specs.Prelude.{◌≡◌, ℕ, ◌+◌, ◌-◌, ◌*◌, ◌≤◌, nat_le, Bool, true, false, not, ◌==◌, ◌&&◌, ◌||◌, cond}
-use Rattle.std.specs.Prelude.{List, [], ◌∷◌, ◌++◌, length, drop, codes, slice_range, IsUtf8}
+use Rattle.std.specs.Prelude.{◌≡◌, ℕ, ◌+◌, ◌-◌, ◌*◌, ◌^◌, ◌<◌, ◌≤◌, nat_le, Bool, true, false, not, ◌==◌, ◌&&◌, ◌||◌}
+use Rattle.std.specs.Prelude.{cond, List, [], ◌∷◌, ◌++◌, length, drop, codes, slice_range, IsUtf8, Option, SomeIff, ℤ, pos}
 use Rattle.linker_base.specs.Members.{IsMember}
 use Rattle.element_store.specs.declared.outcome.Language.{Language}
 use Rattle.token_core.specs.declared.token.TokenKind.{TokenKind}
@@ -55,6 +55,10 @@ commented bytes = codes "/*" ++ bytes ++ codes "*/"
 abbrev pub number_from : ℕ → List ℕ → ℕ
 number_from n [] = n
 number_from n (b ∷ bs) = number_from (n * 10 + (b - byte "0")) bs
+
+-- the number for which the digits stand, where it is below 2 to the 63rd, and none otherwise
+abbrev pub IsIntegerOf : Option ℤ → List ℕ → Type 0
+IsIntegerOf result digits = SomeIff result (number_from 0 digits < 2 ^ 63) (pos (number_from 0 digits))
 
 -- may stand between quotes, as it is or by an escape
 abbrev pub is_spellable : ℕ → Bool

@@ -4,6 +4,7 @@ use Rattle.std.specs.Prelude.{Option, Some, None, is_none}
 use Rattle.std.specs.List.{list_all}
 use Rattle.element_store.specs.declared.outcome.Language.{Language}
 use Rattle.token_core.specs.declared.token.TokenKind.{TokenKind}
+use Rattle.token_core.specs.declared.token.TokenKind.TheVariants.{Quote}
 use Rattle.token_core.specs.Bytes.{backslash, backspace, byte, form_feed, line_feed, name_quote, tab, text_quote}
 use Rattle.token_core.specs.Bytes.{is_letter, is_word}
 use Rattle.token_core.specs.Lex.{Lexes}
@@ -45,3 +46,7 @@ string_spelling text = quoted text_quote text
 -- the text is one token of this kind, and nothing besides
 abbrev pub IsOneToken : Language → TokenKind → List ℕ → Type 0
 IsOneToken language kind text = Lexes language text (Ok (record { kind = kind; from = 0; upto = length text } ∷ []))
+
+-- the text is one string in both languages, and nothing besides
+abbrev pub IsOneString : List ℕ → Type 0
+IsOneString text = (language : Language) → IsOneToken language Quote text

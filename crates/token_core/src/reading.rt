@@ -2,7 +2,7 @@
 
 ghost use Rattle.std.specs.Prelude.{◌≡◌, ◌<◌, ◌≤◌, ◌^◌, false, length, pos, IfOk, IsUtf8, OnOk, SomeIff};
 ghost use Rattle.token_core.specs.Bytes.{escape_meaning};
-ghost use Rattle.token_core.specs.Reading.{bytes_of, comment_meaning, commented, decoded, name_meaning, number_from, string_meaning, IsSpellable, IsTokenOf};
+ghost use Rattle.token_core.specs.Reading.{bytes_of, comment_meaning, commented, decoded, name_meaning, number_from, string_meaning, IsIntegerOf, IsSpellable, IsTokenOf};
 
 use crate::token::{Token, TokenKind};
 use element_store::{Name, Text};
@@ -134,7 +134,7 @@ fn number_of(digits: &[u8]) -> Option<i64>
 /// 9,223,372,036,854,775,807.
 pub fn integer_of(text: &[u8], token: Token) -> Option<i64>
     requires { IsTokenOf TokenKind.Integer text.now token }
-    ensures { let n = number_from 0 (bytes_of text.now token) in SomeIff result (n < 2 ^ 63) (pos n) }
+    ensures { IsIntegerOf result (bytes_of text.now token) }
 {
     number_of(token_bytes(text, token))
 }

@@ -4,7 +4,7 @@ ghost use Rattle.std.specs.Prelude.{◌≡◌, ◌++◌, ◌∷◌, IfOk, OnOk};
 ghost use Rattle.std.specs.List.{list_all};
 ghost use Rattle.token_core.specs.Bytes.{is_word};
 ghost use Rattle.token_core.specs.Reading.{name_meaning, string_meaning, IsSpellable};
-ghost use Rattle.token_core.specs.Spelling.{escape_letter, is_basic_name, name_spelling, quoted, string_spelling, written, IsOneToken};
+ghost use Rattle.token_core.specs.Spelling.{escape_letter, is_basic_name, name_spelling, quoted, string_spelling, written, IsOneString, IsOneToken};
 
 use crate::token::TokenKind;
 use crate::{classes, words};
@@ -101,7 +101,7 @@ pub fn spell_name(alloc: Global, name: &Name, language: Language) -> Result<Text
 pub fn spell_string(alloc: Global, text: &Text) -> Result<Text, NoMemory>
     requires { IsSpellable text.now }
     ensures value { IfOk result (λ string. string ≡ string_spelling text.now) }
-    ensures one { IfOk result (λ string. (language : Language) → IsOneToken language TokenKind.Quote string) }
+    ensures one { IfOk result (λ string. IsOneString string) }
     ensures back { IfOk result (λ string. string_meaning string ≡ text.now) }
 {
     let spelling = quote_bytes(alloc, text.bytes(), b'"')?;

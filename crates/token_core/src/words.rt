@@ -97,7 +97,7 @@ fn starts_of(language: Language) -> &'static [u8]
 
 /// The words of the language that begin with this byte.
 fn part_of(language: Language, first: u8) -> Part
-    ensures { IsPartFor (words language) first result.from (map (λ word. word.now) result.words.now) }
+    ensures { IsPartFor (words language) first result.from (map (λ w. w.now) result.words.now) }
 {
     if !first.is_ascii_lowercase() {
         return Part {
