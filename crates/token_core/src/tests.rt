@@ -101,6 +101,10 @@ fn token(kind: TokenKind, from: u32, upto: u32) -> Token {
     Token { kind, from, upto }
 }
 
+fn sign(number: u8, from: u32, upto: u32) -> Token {
+    token(TokenKind::Sign(number), from, upto)
+}
+
 #[test]
 fn signs_are_taken_longest(rt: HostRuntime) {
     let signs: [&[u8]; 43] = [
@@ -113,46 +117,10 @@ fn signs_are_taken_longest(rt: HostRuntime) {
         assert!(rt; is_one(rt.alloc(), sign, TokenKind::Sign(number as u8)));
     }
     assert!(rt; has_fault(rt.alloc(), b"!", LexFault::Token(0)));
-    assert!(rt;
-        has_tokens(
-            rt.alloc(),
-            b":::>",
-            &[
-                token(TokenKind::Sign(13), 0, 2),
-                token(TokenKind::Sign(14), 2, 4)
-            ]
-        )
-    );
-    assert!(rt;
-        has_tokens(
-            rt.alloc(),
-            b"::>>",
-            &[
-                token(TokenKind::Sign(16), 0, 3),
-                token(TokenKind::Sign(7), 3, 4)
-            ]
-        )
-    );
-    assert!(rt;
-        has_tokens(
-            rt.alloc(),
-            b"....",
-            &[
-                token(TokenKind::Sign(11), 0, 2),
-                token(TokenKind::Sign(11), 2, 4)
-            ]
-        )
-    );
-    assert!(rt;
-        has_tokens(
-            rt.alloc(),
-            b"====",
-            &[
-                token(TokenKind::Sign(20), 0, 3),
-                token(TokenKind::Sign(17), 3, 4)
-            ]
-        )
-    );
+    assert!(rt; has_tokens(rt.alloc(), b":::>", &[sign(13, 0, 2), sign(14, 2, 4)]));
+    assert!(rt; has_tokens(rt.alloc(), b"::>>", &[sign(16, 0, 3), sign(7, 3, 4)]));
+    assert!(rt; has_tokens(rt.alloc(), b"....", &[sign(11, 0, 2), sign(11, 2, 4)]));
+    assert!(rt; has_tokens(rt.alloc(), b"====", &[sign(20, 0, 3), sign(17, 3, 4)]));
     assert!(rt;
         has_tokens(
             rt.alloc(),
