@@ -236,7 +236,8 @@ rank_up files x y r f does is rank =
 -- the new file among all
 rank_new : (files : List StoredFile) (x : StoredFile) → HasRank (files ++ x ∷ []) (rank_of files x) (length files)
 rank_new files x =
-    (x, get_seam files [] x, where_more (λ z. stands_before z x) files x ∙ ap (λ b. rank_of files x + from_bool b) (before_itself x.library x.name) ∙ omega arith)
+    (x, get_seam files [] x, where_more (λ z. stands_before z x) files x
+    ∙ ap (λ b. rank_of files x + from_bool b) (before_itself x.library x.name) ∙ omega arith)
 
 -- the ranks after one file more, which is put in at its own rank
 pub ranked_more : (files : List StoredFile) (ranks : List ℕ) (x : StoredFile) → (IsMember (map (λ y. y.name) files) x.name → ⊥) → AreRanked files ranks
@@ -406,7 +407,7 @@ filter_one true x ys zs e = ap (λ ws. x ∷ ws) e
 filter_one false x ys zs e = e
 
 -- the filter of a chain is the list of those that pass
-filter_is : {A : Type 0} (p : A → Bool) (xs : List A) → filter p xs ≡ those_where p xs
+pub filter_is : {A : Type 0} (p : A → Bool) (xs : List A) → filter p xs ≡ those_where p xs
 filter_is p [] = refl
 filter_is p (x ∷ xs) = filter_one (p x) x (filter p xs) (those_where p xs) (filter_is p xs)
 
