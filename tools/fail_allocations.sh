@@ -1,7 +1,7 @@
 #!/usr/bin/env bash
-# Runs the program's stored run with its Nth allocation refused, for each N from FIRST (1) on, and checks what
-# it leaves: the run's own status and output, or a status of its own and a prefix of that output. Stops after
-# five N in a row that changed nothing: the run makes no more allocations. Each N takes a build of its own.
+# Runs the built program on its stored input with its Nth allocation refused, for each N from FIRST (1) on, and checks
+# what it leaves: the run's own status and the whole output, or a status of its own and the whole answers of some first
+# commands. Stops after five N in a row that changed nothing: the run makes no more allocations. It builds once.
 #
 # usage: tools/fail_allocations.sh [FIRST]
 set -u
@@ -13,22 +13,58 @@ NO_MEMORY=5
 
 folder=$(mktemp -d) || exit 2
 trap 'rm -rf "$folder"' EXIT
+
+# A shared object that stands before the C library's allocator and refuses one allocation.
+cat > "$folder/refuse.c" <<'C'
+#include <errno.h>
+#include <stddef.h>
+#include <stdlib.h>
+
+extern void *__libc_malloc(size_t size);
+extern void *__libc_calloc(size_t count, size_t size);
+extern void *__libc_realloc(void *old, size_t size);
+extern void *__libc_memalign(size_t alignment, size_t size);
+
+/* Whether the allocation that begins is the one to be refused. */
+static int refused(void) {
+    static long made = 0;
+    const char *number = getenv("REFUSED_ALLOCATION");
+    made += 1;
+    return number != NULL && atol(number) == made;
+}
+
+void *malloc(size_t size) { return refused() ? NULL : __libc_malloc(size); }
+void *calloc(size_t count, size_t size) { return refused() ? NULL : __libc_calloc(count, size); }
+void *realloc(void *old, size_t size) { return refused() ? NULL : __libc_realloc(old, size); }
+void *aligned_alloc(size_t alignment, size_t size) { return refused() ? NULL : __libc_memalign(alignment, size); }
+int posix_memalign(void **result, size_t alignment, size_t size) {
+    *result = refused() ? NULL : __libc_memalign(alignment, size);
+    return *result == NULL ? ENOMEM : 0;
+}
+C
+cc -O1 -shared -fPIC -o "$folder/refuse.so" "$folder/refuse.c" || exit 2
+rt run -- $(cat args) < stdin > "$folder/output" 2> /dev/null || { echo "the stored run fails"; exit 2; }
+cmp -s "$folder/output" stdout || { echo "the stored run writes something else"; exit 2; }
+
+# The lengths of the outputs that are whole answers: an answer ends with the line that begins with its command.
+ends=" 0 $(awk '{ size += length($0) + 1 } /^(put|links|end)( |$)/ { printf "%d ", size }' stdout)"
 whole=$(wc -c < stdout)
 number=${1:-1}
 unchanged=0
 wrong=0
 declare -A counts=()
 while [ "$unchanged" -lt 5 ]; do
-    rt try --fail-alloc "$number" -- $(cat args) < stdin > "$folder/output" 2> "$folder/errors"
+    REFUSED_ALLOCATION=$number LD_PRELOAD="$folder/refuse.so" out/sysml $(cat args) \
+        < stdin > "$folder/output" 2> "$folder/errors"
     status=$?
     size=$(wc -c < "$folder/output")
     verdict=right
-    if ! cmp -s -n "$size" "$folder/output" stdout || [ "$size" -gt "$whole" ]; then
+    if ! cmp -s -n "$size" "$folder/output" stdout || [[ "$ends" != *" $size "* ]]; then
         verdict=wrong
     fi
     case $status in
         0) [ "$size" -eq "$whole" ] || verdict=wrong ;;
-        "$NO_MEMORY") grep -qx "no memory" "$folder/errors" || verdict=wrong ;;
+        "$NO_MEMORY") [ "$(cat "$folder/errors")" = "no memory" ] || verdict=wrong ;;
         "$NO_WORDS") [ "$size" -eq 0 ] || verdict=wrong ;;
         *) verdict=wrong ;;
     esac

@@ -12,11 +12,13 @@ use Rattle.first_links.specs.Tiers.{elements_of, owner_in, lexical_tiers, decidi
 abbrev pub start_of : List Element → Reference → Option ℕ
 start_of elements r = owner_in elements r.context
 
--- The outcome of a path of one segment: of the first of the tiers that has a member. No reference waits on another here.
+-- The outcome of a path of one segment: of the first of the tiers that has a member. No reference waits on another
+-- here.
 abbrev pub ask : Files → FileNo → Reference → Outcome
 ask files f r = outcome_of r.path
   where
     outcome_of : List (List ℕ) → Outcome
     outcome_of [] = Absent 1
     outcome_of (x ∷ more) =
-        option_map_or (λ start. pick 1 (deciding (lexical_tiers files x (record { file = f; index = start })))) (start_of (elements_of files f) r) (Absent 1)
+        option_map_or (λ start. pick 1 (deciding (lexical_tiers files x (record { file = f; index = start }))))
+        (start_of (elements_of files f) r) (Absent 1)

@@ -27,7 +27,8 @@ hit_of f k m = record { member = record { file = f; index = k }; element = recor
 -- the hits of those members that the namespace owns and that bear x, least first; the first member has the number k
 abbrev pub hits_from : FileNo → ℕ → List ℕ → ℕ → List Member → List Hit
 hits_from f n x k [] = []
-hits_from f n x k (m ∷ ms) = cond (nat_eq m.owner n && bears m.name x) (hit_of f k m ∷ hits_from f n x (k + 1) ms) (hits_from f n x (k + 1) ms)
+hits_from f n x k (m ∷ ms) =
+    cond (nat_eq m.owner n && bears m.name x) (hit_of f k m ∷ hits_from f n x (k + 1) ms) (hits_from f n x (k + 1) ms)
 
 -- the members of a file
 abbrev pub members_of : Files → FileNo → List Member
@@ -58,7 +59,8 @@ outward elements (suc steps) e = e ∷ option_map_or (outward elements steps) (o
 abbrev pub lexical_tiers : Files → List ℕ → ElementNo → List (List Hit)
 lexical_tiers files x n =
     let elements = elements_of files n.file in
-    map (λ e. owned files x (record { file = n.file; index = e })) (outward elements (length elements) n.index) ++ project_tier files x ∷ []
+    map (λ e. owned files x (record { file = n.file; index = e })) (outward elements (length elements) n.index)
+    ++ project_tier files x ∷ []
 
 -- the first tier that isn't empty
 abbrev pub deciding : List (List Hit) → List Hit
@@ -79,4 +81,5 @@ another e (h ∷ hs) = cond (is_element e h.element) (another e hs) (Some h)
 -- otherwise the least member and the least member that leads to another element.
 abbrev pub pick : ℕ → List Hit → Outcome
 pick segment [] = Absent segment
-pick segment (h ∷ hs) = option_map_or (λ o. Ambiguous segment h.member o.member) (another h.element hs) (Linked [] h.element)
+pick segment (h ∷ hs) =
+    option_map_or (λ o. Ambiguous segment h.member o.member) (another h.element hs) (Linked [] h.element)

@@ -10,10 +10,6 @@ use Rattle.first_reader.specs.declared.lexer.PieceKind.{PieceKind}
 use Rattle.first_reader.specs.declared.lexer.PieceKind.TheVariants.{Space, Basic, Sign}
 use Rattle.first_reader.specs.declared.lexer.Token.{Token}
 
--- a slice to the end is what is left
-pub rest_is : {X : Type 0} (i : ℕ) (xs : List X) → take (length xs - i) (drop i xs) ≡ drop i xs
-rest_is i xs = take_all (length xs - i) (drop i xs) (omega (arith, length-drop i xs))
-
 -- two fronts are one
 pub front_twice : (xs ys : List Token) (o : Option (List Token)) → with_front xs (with_front ys o) ≡ with_front (xs ++ ys) o
 front_twice xs ys None = refl

@@ -44,21 +44,28 @@ written_by text t = record { name = bytes_of text t; place = t.«from» }
 -- the part definition whose tokens stand at the front
 abbrev pub definition_by : List ℕ → List Token → ℕ → Definition
 definition_by text tokens size =
-    record { place = (token_in tokens 0).«from»; name = bytes_of text (token_in tokens 2); general = cond (nat_eq size 6) (Some (written_by text (token_in tokens 4))) None }
+    record {
+      place = (token_in tokens 0).«from»;
+      name = bytes_of text (token_in tokens 2);
+      general = cond (nat_eq size 6) (Some (written_by text (token_in tokens 4))) None;
+    }
 
 abbrev pub with_definition : Definition → Option (List Definition) → Option (List Definition)
 with_definition d None = None
 with_definition d (Some later) = Some (d ∷ later)
 
 -- what follows a definition of so many tokens, or the end of the body
-abbrev pub after_definition : List ℕ → List Token → (List Token → Option (List Definition)) → ℕ → Option (List Definition)
+abbrev pub after_definition : List ℕ → List Token → (List Token → Option (List Definition)) → ℕ
+    → Option (List Definition)
 after_definition text tokens next zero = cond (is_end (map kind_of_token tokens)) (Some []) None
-after_definition text tokens next (suc n) = with_definition (definition_by text tokens (suc n)) (next (drop (suc n) tokens))
+after_definition text tokens next (suc n) =
+    with_definition (definition_by text tokens (suc n)) (next (drop (suc n) tokens))
 
 -- the part definitions up to the end; each takes a token at least
 unfoldable pub definitions_within : ℕ → List ℕ → List Token → Option (List Definition)
 definitions_within zero text tokens = None
-definitions_within (suc steps) text tokens = after_definition text tokens (definitions_within steps text) (definition_length (map kind_of_token tokens))
+definitions_within (suc steps) text tokens =
+    after_definition text tokens (definitions_within steps text) (definition_length (map kind_of_token tokens))
 
 -- the part definitions that the tokens write, up to the end of the body
 unfoldable pub definitions_of : List ℕ → List Token → Option (List Definition)
@@ -68,7 +75,12 @@ definitions_of text tokens = definitions_within (suc (length tokens)) text token
 abbrev pub package_by : List ℕ → List Token → Option Package
 package_by text tokens =
     cond (is_opening (map kind_of_token tokens))
-    (option_map (λ definitions. record { place = (token_in tokens 0).«from»; name = bytes_of text (token_in tokens 1); definitions = definitions })
+    (option_map (λ definitions.
+    record {
+      place = (token_in tokens 0).«from»;
+      name = bytes_of text (token_in tokens 1);
+      definitions = definitions;
+    })
     (definitions_of text (drop 3 tokens)))
     None
 

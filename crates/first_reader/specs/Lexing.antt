@@ -40,7 +40,8 @@ with_front front (Some later) = Some (front ++ later)
 
 abbrev pub after_piece : ℕ → List ℕ → (ℕ → List ℕ → Option (List Token)) → Option Piece → Option (List Token)
 after_piece at text next None = None
-after_piece at text next (Some p) = with_front (tokens_of_piece at p.kind (take p.length text)) (next (at + p.length) (drop p.length text))
+after_piece at text next (Some p) =
+    with_front (tokens_of_piece at p.kind (take p.length text)) (next (at + p.length) (drop p.length text))
 
 unfoldable pub lexed_within : ℕ → ℕ → List ℕ → Option (List Token)
 lexed_within steps at [] = Some []

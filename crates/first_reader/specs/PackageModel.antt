@@ -1,4 +1,5 @@
--- The model of a text of the first path: the root, its package, and the package's part definitions; after SysML's Package,
+-- The model of a text of the first path: the root, its package, and the package's part definitions; after SysML's
+-- Package,
 -- PartDefinition and Subclassification.
 use Rattle.std.specs.Prelude.{ℕ, ◌+◌, List, [], ◌∷◌, ◌++◌, map, Option, Some, None}
 use Rattle.element_store.specs.declared.outcome.Role.TheVariants.{Subclass}
@@ -15,7 +16,8 @@ definition_element d = record { owner = Some 1; name = Some d.name }
 -- the owned members that lead to part definitions; the first definition is the element e
 abbrev pub definition_members : ℕ → List Definition → List Member
 definition_members e [] = []
-definition_members e (d ∷ ds) = record { owner = 1; element = e; name = Some d.name; place = d.place } ∷ definition_members (e + 1) ds
+definition_members e (d ∷ ds) =
+    record { owner = 1; element = e; name = Some d.name; place = d.place } ∷ definition_members (e + 1) ds
 
 -- the reference to a general, if there is one
 abbrev pub general_reference : ℕ → Option Written → List Reference
@@ -30,7 +32,10 @@ definition_references e (d ∷ ds) = general_reference e d.general ++ definition
 -- element 0 is the root, element 1 the package, and its definitions follow
 abbrev pub model_of : Package → Model
 model_of p = record {
-  elements = record { owner = None; name = None } ∷ record { owner = Some 0; name = Some p.name } ∷ map definition_element p.definitions;
+  elements = record { owner = None; name = None } ∷ record {
+    owner = Some 0;
+    name = Some p.name;
+  } ∷ map definition_element p.definitions;
   members = record { owner = 0; element = 1; name = Some p.name; place = p.place } ∷ definition_members 2 p.definitions;
   references = definition_references 2 p.definitions;
 }

@@ -41,7 +41,8 @@ IsPiece (Sign kind) (b ∷ bs) more = b ∷ bs ≡ spelling_of kind
 -- the bytes are a piece where these follow, and no longer piece of any form begins at their place
 pub record IsLongest (kind : PieceKind) (bytes more : List ℕ) : Type 0 where
   pub piece : IsPiece kind bytes more
-  pub longest : (k : PieceKind) (bs rest : List ℕ) → bs ++ rest ≡ bytes ++ more → IsPiece k bs rest → length bs ≤ length bytes
+  pub longest : (k : PieceKind) (bs rest : List ℕ) → bs ++ rest ≡ bytes ++ more → IsPiece k bs rest
+      → length bs ≤ length bytes
 
 -- no piece begins here
 abbrev pub NoPiece : List ℕ → Type 0
@@ -55,7 +56,9 @@ after_colon (b ∷ bs) = cond (nat_eq b 62) (Some (after_greater bs)) None
   where
     after_greater : List ℕ → Piece
     after_greater [] = record { kind = Sign Specializes; length = 2 }
-    after_greater (c ∷ cs) = cond (nat_eq c 62) (record { kind = Sign Redefines; length = 3 }) (record { kind = Sign Specializes; length = 2 })
+    after_greater (c ∷ cs) =
+        cond (nat_eq c 62) (record { kind = Sign Redefines; length = 3 })
+        (record { kind = Sign Specializes; length = 2 })
 
 abbrev pub sign_at : List ℕ → Option Piece
 sign_at [] = None

@@ -150,7 +150,8 @@ fn read_definitions(
 ) -> Result<Option<Listing<Definition>>, NoMemory>
     requires { All (IsWithin text.now) tokens.now }
     ensures value { IfOk result (λ found. found ≡ definitions_of text.now tokens.now) }
-    ensures few { IfOk result (λ found. IfSome found (λ definitions. length definitions ≤ length tokens.now)) }
+    ensures few { IfOk result (λ found. IfSome found
+        (λ definitions. length definitions ≤ length tokens.now)) }
 {
     let mut definitions = Listing::new(alloc);
     let mut at = 0;
@@ -171,7 +172,8 @@ fn read_definitions(
 fn read_package(alloc: Global, text: &[u8], tokens: &[Token]) -> Result<Option<Package>, NoMemory>
     requires { All (IsWithin text.now) tokens.now }
     ensures value { IfOk result (λ found. found ≡ package_by text.now tokens.now) }
-    ensures few { IfOk result (λ found. IfSome found (λ p. length p.definitions ≤ length tokens.now)) }
+    ensures few { IfOk result (λ found. IfSome found
+        (λ p. length p.definitions ≤ length tokens.now)) }
 {
     if !opens(tokens) {
         return Ok(None);
@@ -192,7 +194,8 @@ fn read_package(alloc: Global, text: &[u8], tokens: &[Token]) -> Result<Option<P
 pub fn read(alloc: Global, text: &[u8]) -> Result<Option<Package>, NoMemory>
     requires { length text.now < 2 ^ 32 }
     ensures value { IfOk result (λ found. found ≡ package_of text.now) }
-    ensures few { IfOk result (λ found. IfSome found (λ p. length p.definitions ≤ length text.now)) }
+    ensures few { IfOk result (λ found. IfSome found
+        (λ p. length p.definitions ≤ length text.now)) }
 {
     let Some(tokens) = lex(alloc, text)? else {
         return Ok(None);

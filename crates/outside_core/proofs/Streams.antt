@@ -4,11 +4,8 @@ use Rattle.std.proofs.Math.Seq.{take-add, take-length, take-append-add}
 use Rattle.std.proofs.lemmas.List.{take-append-le}
 use Rattle.std.specs.Prelude.{Option, Some, None, Ok, Err, Result}
 use Rattle.linker_base.specs.Counts.{HasCause, Rose}
+use Rattle.linker_base.proofs.Lists.{rest_is}
 use Rattle.outside_core.specs.Streams.{Takes, TakenSoFar, Gives, GivenSoFar, GivesAll}
-
--- the rest of a slice, as code takes it
-rest_is : (n : ℕ) (xs : List ℕ) → take (length xs - n) (drop n xs) ≡ drop n xs
-rest_is n xs = ap (λ k. take k (drop n xs)) (sym (length-drop n xs)) ∙ take-length (drop n xs)
 
 -- after the first bytes of a piece, a call gave some of the rest
 given_more : (E : Type 0) (old now new : Option (List ℕ)) (piece : List ℕ) (done count : ℕ) → GivenSoFar old now piece done → Gives {E = E} now new (Ok count) (drop done piece)

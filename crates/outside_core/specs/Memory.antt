@@ -1,7 +1,8 @@
 -- What contracts see of the objects over memory.
 use Rattle.std.specs.Prelude.{ℕ, ◌+◌, ◌-◌, ◌^◌, min, max, List, [], ◌∷◌}
 
--- a source: the bytes left, the greatest sizes of the calls to come, the numbers of the calls that fail, the calls made, the faults
+-- a source: the bytes left, the greatest sizes of the calls to come, the numbers of the calls that fail, the calls
+-- made, the faults
 pub record Feed : Type 0 where
   pub left : List ℕ
   pub cuts : List ℕ
@@ -28,7 +29,8 @@ pub record Stream : Type 0 where
   pub left : List ℕ
   pub cuts : List ℕ
 
--- how many of so many bytes the next call may move: at most its cut, of which 0 counts as 1; no limit after the last cut
+-- how many of so many bytes the next call may move: at most its cut, of which 0 counts as 1; no limit after the last
+-- cut
 abbrev pub within_cut : List ℕ → ℕ → ℕ
 within_cut [] count = count
 within_cut (cut ∷ cuts) count = min (max 1 cut) count

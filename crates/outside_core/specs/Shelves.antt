@@ -23,8 +23,9 @@ abbrev pub IsLonger : Option (List ℕ) → ℕ → Type 0
 IsLonger None max = ⊥
 IsLonger (Some text) max = max < length text
 
--- Ok gives exactly the text under the name; where that text has more than `max` bytes, TooLong comes or Failed, and TooLong comes nowhere else
--- (that Ok gives at most `max` bytes is a clause of its own); what is not told says nothing
+-- Ok gives exactly the text under the name; where that text has more than `max` bytes, TooLong comes or Failed, and
+-- TooLong comes nowhere else (that Ok gives at most `max` bytes is a clause of its own); what is not told says
+-- nothing
 abbrev pub Fetches : {A : Type 0} → Told → List ℕ → ℕ → Result (Vec ℕ A) ShelfFault → Type 0
 Fetches None name max result = Unit {0}
 Fetches (Some texts) name max (Ok text) = texts name ≡ Some (vec_items text)
@@ -34,7 +35,8 @@ Fetches (Some texts) name max (Err NoMemory) = IsAtMost (texts name) max
 
 -- Failed comes only where the count rose, and then the last failed name is this one; any other answer leaves both;
 -- the count never falls
-abbrev pub HasShelfCause : {T : Type 0} → (before now : ℕ) (last new : Option (List ℕ)) (name : List ℕ) → Result T ShelfFault → Type 0
+abbrev pub HasShelfCause : {T : Type 0} → (before now : ℕ) (last new : Option (List ℕ)) (name : List ℕ)
+    → Result T ShelfFault → Type 0
 HasShelfCause before now last new name (Ok text) = (now ≡ before) × (new ≡ last)
 HasShelfCause before now last new name (Err Failed) = (before ≤ now) × Rose before now × (new ≡ Some name)
 HasShelfCause before now last new name (Err TooLong) = (now ≡ before) × (new ≡ last)

@@ -1,11 +1,17 @@
 -- What a call does to the content of a source or a sink, where it is told. None stands for a content that is not told.
 use Rattle.std.specs.Prelude.{◌≡◌, ℕ, ◌≤◌, ◌↔◌, List, [], ◌++◌, length, take, Option, Some, None, Result, Ok, Err}
 
+-- a stream of std with its count of faults: what contracts see of an adapter
+pub record Adapted (S : Type 0) : Type 0 where
+  pub stream : S
+  pub faults : ℕ
+
 -- Ok n took the next n bytes, which are now the first of the buffer, and 0 exactly where nothing was left;
 -- a failure took nothing; what is not told stays untold
 abbrev pub Takes : {E : Type 0} → Option (List ℕ) → Option (List ℕ) → Result ℕ E → List ℕ → Type 0
 Takes None left result buffer = left ≡ None
-Takes (Some bytes) left (Ok n) buffer = (rest : List ℕ) × (left ≡ Some rest) × (bytes ≡ take n buffer ++ rest) × ((n ≡ 0) ↔ (bytes ≡ []))
+Takes (Some bytes) left (Ok n) buffer =
+    (rest : List ℕ) × (left ≡ Some rest) × (bytes ≡ take n buffer ++ rest) × ((n ≡ 0) ↔ (bytes ≡ []))
 Takes (Some bytes) left (Err e) buffer = left ≡ Some bytes
 
 -- these bytes were taken so far

@@ -38,7 +38,13 @@ impl MemorySource {
     /// A source of these bytes. `cuts` are the greatest sizes of successive calls, of which 0 counts as 1; after
     /// the last one there is no limit. `fails` are the numbers of the calls that fail, counted from 1.
     pub fn new(bytes: Vec<u8>, cuts: Vec<usize>, fails: Vec<u64>) -> MemorySource
-        ensures { result ≡ record { left = bytes.items; cuts = cuts.items; fails = fails.items; calls = 0; faults = 0 } }
+        ensures { result ≡ record {
+          left = bytes.items;
+          cuts = cuts.items;
+          fails = fails.items;
+          calls = 0;
+          faults = 0;
+        } }
     {
         MemorySource {
             rest: Rest::new(bytes),
@@ -62,7 +68,8 @@ impl Source for MemorySource {
         // Which calls fail, each of which is counted, and how many bytes the others move.
         ensures failed { IsErr result ↔ Contains self.old.fails (next_call self.old.calls) }
         ensures counted { OnErr result (self.new.faults ≡ counted_once self.old.faults) }
-        ensures moved { IfOk result (λ n. n ≡ within_cut self.old.cuts (min (length into.old) (length self.old.left))) }
+        ensures moved { IfOk result (λ n. n ≡ within_cut self.old.cuts
+            (min (length into.old) (length self.old.left))) }
 
         // Each call uses up its number and its cut.
         ensures calls { self.new.calls ≡ next_call self.old.calls }
@@ -113,7 +120,15 @@ impl MemorySink {
         cuts: Vec<usize>,
         fails: Vec<u64>,
     ) -> Result<MemorySink, NoMemory>
-        ensures { IfOk result (λ sink. sink ≡ record { given = []; room = room; cuts = cuts.items; fails = fails.items; calls = 0; faults = 0 }) }
+        ensures { IfOk result (λ sink. sink
+            ≡ record {
+              given = [];
+              room = room;
+              cuts = cuts.items;
+              fails = fails.items;
+              calls = 0;
+              faults = 0;
+            }) }
     {
         Ok(MemorySink {
             room: Room::new(vec![in alloc; 0; room]?),
@@ -143,9 +158,11 @@ impl Sink for MemorySink {
         ensures cause { HasCause self.old.faults self.new.faults result }
 
         // Which calls fail, each of which is counted, and how many bytes the others move.
-        ensures failed { IsErr result ↔ (Contains self.old.fails (next_call self.old.calls) ⊎ (self.old.room ≤ length self.old.given)) }
+        ensures failed { IsErr result ↔ (Contains self.old.fails (next_call self.old.calls)
+            ⊎ (self.old.room ≤ length self.old.given)) }
         ensures counted { OnErr result (self.new.faults ≡ counted_once self.old.faults) }
-        ensures moved { IfOk result (λ n. n ≡ within_cut self.old.cuts (min (length piece.now) (self.old.room - length self.old.given))) }
+        ensures moved { IfOk result (λ n. n ≡ within_cut self.old.cuts
+            (min (length piece.now) (self.old.room - length self.old.given))) }
 
         // Each call uses up its number and its cut.
         ensures calls { self.new.calls ≡ next_call self.old.calls }

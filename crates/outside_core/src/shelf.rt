@@ -21,5 +21,6 @@ pub trait Shelf {
         ensures held { held self.new ≡ held self.old }
         ensures bound { IfOk result (λ text. vec_len text ≤ max) }
         ensures told { Fetches (held self.old) name.now max result }
-        ensures cause { HasShelfCause (faults self.old) (faults self.new) (last_failed self.old) (last_failed self.new) name.now result };
+        ensures cause { HasShelfCause (faults self.old) (faults self.new) (last_failed self.old)
+            (last_failed self.new) name.now result };
 }

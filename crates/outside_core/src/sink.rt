@@ -1,4 +1,5 @@
 ghost use Rattle.std.specs.Prelude.{◌≡◌, ◌<◌, ◌≤◌, ℕ, List, Option, None, length, IfOk, OnErr};
+ghost use Rattle.std.specs.Io.KnownBytes.{WriteAppends};
 ghost use Rattle.linker_base.specs.Counts.{HasCause, counted_once};
 ghost use Rattle.outside_core.specs.Streams.{Gives, GivesAll};
 
@@ -35,8 +36,10 @@ pub fn give_all<K: Sink>(sink: &mut K, piece: &[u8]) -> Result<(), Failed>
     Ok(())
 }
 
-/// A sink over a std writer. It tells no content. Contracts see its count of faults, which stands still at
-/// its last value: each error of the writer raises it, and so does a writer that takes nothing.
+/// A sink over a std writer. As a sink it tells no content, since a writer may begin to tell its own at any
+/// call. Contracts see the writer with a count of faults, which stands still at its last value: each error
+/// of the writer raises it, and so does a writer that takes nothing. What the writer tells, each `give`
+/// appends to as it says.
 #[derive(Drop)]
 pub struct StdSink<W: Write> {
     writer: W,
@@ -44,17 +47,17 @@ pub struct StdSink<W: Write> {
 }
 
 impl<W: Write> Model for StdSink<W> {
-    ghost use Rattle.std.specs.Prelude.{ℕ};
+    ghost use Rattle.outside_core.specs.Streams.{Adapted};
 
-    ghost Value = { ℕ };
+    ghost Value = { Adapted W };
 
-    ghost view = { λ s. s.faults };
+    ghost view = { λ s. record { stream = s.writer; faults = s.faults } };
 }
 
 impl<W: Write> StdSink<W> {
     /// A sink over this writer, without faults so far.
     pub fn new(writer: W) -> Self
-        ensures { result ≡ 0 }
+        ensures { result ≡ record { stream = writer; faults = 0 } }
     {
         StdSink { writer, faults: 0 }
     }
@@ -63,15 +66,17 @@ impl<W: Write> StdSink<W> {
 impl<W: Write> Sink for StdSink<W> {
     ghost given = { λ _. None };
 
-    ghost faults = { λ count. count };
+    ghost faults = { λ s. s.faults };
 
     fn give(&mut self, piece: &[u8]) -> Result<usize, Failed>
         requires { 0 < length piece.now }
         ensures some { IfOk result (λ n. 0 < n) }
         ensures bound { IfOk result (λ n. n ≤ length piece.now) }
         ensures told { Gives None None result piece.now }
-        ensures cause { HasCause self.old self.new result }
-        ensures counted { OnErr result (self.new ≡ counted_once self.old) }
+        ensures cause { HasCause self.old.faults self.new.faults result }
+        ensures counted { OnErr result (self.new.faults ≡ counted_once self.old.faults) }
+        ensures bytes { WriteAppends (W.contents self.old.stream)
+            (W.contents self.new.stream) result piece.now }
     {
         match self.writer.write(piece) {
             Ok(count) if count > 0 => Ok(count),

@@ -53,7 +53,8 @@ impl Source for SteadySource {
         ensures cause { HasCause 0 0 result }
 
         // No call fails. Each moves as many bytes as it may, and uses up its cut.
-        ensures moved { result ≡ Ok (within_cut self.old.cuts (min (length into.old) (length self.old.left))) }
+        ensures moved { result ≡ Ok (within_cut self.old.cuts
+            (min (length into.old) (length self.old.left))) }
         ensures cuts { self.new.cuts ≡ drop 1 self.old.cuts }
     {
         let count = self.cuts.begin(into.len().min(self.rest.len()));
@@ -104,7 +105,10 @@ impl Model for SteadyShelf {
 
     ghost Value = { Library };
 
-    ghost view = { λ s. record { names = map string_bytes s.names.items; texts = map vec_items s.texts.items } };
+    ghost view = { λ s. record {
+      names = map string_bytes s.names.items;
+      texts = map vec_items s.texts.items;
+    } };
 
     ghost invariant = { λ s. length s.names.items ≡ length s.texts.items };
 }
@@ -114,8 +118,12 @@ impl SteadyShelf {
     pub fn new(names: Vec<String>, texts: Vec<Vec<u8>>) -> SteadyShelf
         requires as_many { vec_len names ≡ vec_len texts }
         requires distinct { IsEachOnce (map string_bytes names.items) }
-        ensures value { result ≡ record { names = map string_bytes names.items; texts = map vec_items texts.items } }
-        ensures held { StandsBeside (map string_bytes names.items) (map vec_items texts.items) (steady_text result) }
+        ensures value { result ≡ record {
+          names = map string_bytes names.items;
+          texts = map vec_items texts.items;
+        } }
+        ensures held { StandsBeside (map string_bytes names.items) (map vec_items texts.items)
+            (steady_text result) }
     {
         SteadyShelf { names, texts }
     }
@@ -148,7 +156,8 @@ impl Shelf for SteadyShelf {
 /// The text beside the first such name, or the empty text.
 fn text_under<'a>(names: &[String], texts: &'a [Vec<u8>], name: &str) -> &'a [u8]
     requires { length names.now ≡ length texts.now }
-    ensures { result.now ≡ steady_text (record { names = map string_bytes names.now; texts = map vec_items texts.now }) name.now }
+    ensures { result.now ≡ steady_text
+        (record { names = map string_bytes names.now; texts = map vec_items texts.now }) name.now }
 {
     let mut i = 0;
     while i < names.len() {

@@ -1,4 +1,5 @@
--- The concrete syntax of the small grammar, by its productions: which tokens each of them writes, and what they mean. After
+-- The concrete syntax of the small grammar, by its productions: which tokens each of them writes, and what they mean.
+-- After
 -- SysML's Package (8.2.2.5) and PartDefinition (8.2.2.11).
 --   Package = 'package' NAME '{' Definition* '}'
 --   Definition = 'part' 'def' NAME ( ':>' NAME )? ';'
@@ -38,7 +39,8 @@ pub record IsDefinition (text : List ℕ) (tokens : List Token) (d : Definition)
 -- Definition*
 abbrev pub IsDefinitions : List ℕ → List Token → List Definition → Type 0
 IsDefinitions text tokens [] = tokens ≡ []
-IsDefinitions text tokens (d ∷ ds) = (front more : List Token) × (tokens ≡ front ++ more) × IsDefinition text front d × IsDefinitions text more ds
+IsDefinitions text tokens (d ∷ ds) = (front more : List Token) × (tokens ≡ front ++ more) × IsDefinition text front d
+    × IsDefinitions text more ds
 
 -- 'package' NAME '{' Definition* '}'
 pub record IsPackage (text : List ℕ) (tokens : List Token) (p : Package) : Type 0 where

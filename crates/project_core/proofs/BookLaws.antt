@@ -1,12 +1,11 @@
 -- What a put does to the numbers of names and bytes.
-use Rattle.std.proofs.Common.{◌≡◌, ℕ, ◌+◌, ◌≤◌, Bool, true, false, cond, nat_eq, nat_lt, List, [], ◌∷◌, length, refl, sym, ◌∙◌, ap, arith, inl, inr}
-use Rattle.std.specs.Prelude.{suc, Option, None, Some, is_some, ◌<◌}
+use Rattle.std.proofs.Common.{◌≡◌, ℕ, ◌+◌, ◌≤◌, Bool, true, false, cond, nat_eq, List, [], ◌∷◌, length, refl, arith, inl, inr}
+use Rattle.std.specs.Prelude.{suc, is_some, ◌<◌}
 use Rattle.std.specs.Map.{lookup}
-use Rattle.std.specs.Option.{option_map_or}
 use Rattle.std.specs.Cmp.Lexicographic.{pointwise}
 use Rattle.std.proofs.lemmas.Bool.Decides.{nat_tests}
 use Rattle.linker_base.proofs.Cases.{bool_cases}
-use Rattle.session_model.specs.Book.{Book, put_in, bytes_in, held_in, Edited, edited}
+use Rattle.session_model.specs.Book.{Book, put_in, bytes_in, held_in, edited}
 use Rattle.session_model.specs.Book.Edited.{Changed, Refused}
 
 -- a put keeps the number of names where the name is there, and raises it by one otherwise

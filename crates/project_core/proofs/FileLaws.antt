@@ -1,10 +1,9 @@
 -- The files of a book by their numbers.
-use Rattle.std.proofs.Common.{◌≡◌, ℕ, ◌+◌, ◌<◌, Bool, true, false, cond, nat_eq, zero, suc, List, [], ◌∷◌, length, refl, sym, ◌∙◌, ap, arith, one-add, inl, inr}
+use Rattle.std.proofs.Common.{◌≡◌, ℕ, true, nat_eq, List, [], ◌∷◌, refl, ap, one-add, inl, inr}
 use Rattle.std.specs.Prelude.{Option, None, Some, slice_get}
 use Rattle.std.specs.Option.{option_map_or}
 use Rattle.std.specs.Cmp.Lexicographic.{pointwise}
-use Rattle.linker_base.proofs.Cases.{bool_cases, option_cases}
-use Rattle.first_links.specs.Model.{Source}
+use Rattle.linker_base.proofs.Cases.{bool_cases}
 use Rattle.first_reader.specs.PackageModel.{model_of_text}
 use Rattle.session_model.specs.Book.{Book, text_in, text_at, name_at, number_in, source_of, file_number, files_of}
 

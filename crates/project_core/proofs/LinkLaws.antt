@@ -1,6 +1,6 @@
 -- What the tables of names say of the tiers.
 use Rattle.std.proofs.Common.{◌≡◌, ℕ, ◌+◌, ◌<◌, ◌≤◌, Bool, true, false, cond, nat_eq, zero, suc, List, [], ◌∷◌, ◌++◌, length, map, refl, sym, ◌∙◌, ap, subst, arith, inl, inr, take, rules, one-add, append_assoc, length-append}
-use Rattle.std.specs.Prelude.{Option, None, Some, Ok, Err, slice_get, slice_index, slice_index_or, insert, not, ◌⊎◌, ◌&&◌}
+use Rattle.std.specs.Prelude.{Option, None, Some, Ok, Err, slice_get, slice_index, slice_index_or, insert, not, ◌&&◌}
 use Rattle.std.specs.Option.{option_map_or}
 use Rattle.std.specs.List.{flat_map, prefix_len}
 use Rattle.std.specs.Cmp.Lexicographic.{pointwise, slice_cmp}
@@ -9,15 +9,14 @@ use Rattle.std.proofs.lemmas.Bool.Decides.{nat_tests}
 use Rattle.std.proofs.lemmas.List.{take_more}
 use Rattle.project_core.specs.declared.rows.LinkRow.{LinkRow}
 use Rattle.linker_base.specs.Members.{IsMember, IsEachOnce}
-use Rattle.linker_base.proofs.Cases.{bool_cases, option_cases}
+use Rattle.linker_base.proofs.Cases.{bool_cases}
 use Rattle.element_store.specs.declared.numbers.FileNo.{FileNo}
-use Rattle.element_store.specs.declared.outcome.Outcome.{Outcome}
-use Rattle.element_store.specs.declared.outcome.Outcome.TheVariants.{Linked, Absent, Ambiguous}
-use Rattle.first_links.specs.Model.{Element, Member, Reference, Model, Source, Files}
-use Rattle.first_links.specs.Tiers.{Hit, hits_from, hit_of, members_of, owned, project_tier, elements_of, owner_in, outward, lexical_tiers, deciding, is_element, another, pick}
+use Rattle.element_store.specs.declared.outcome.Outcome.TheVariants.{Linked, Absent}
+use Rattle.first_links.specs.Model.{Element, Reference, Files}
+use Rattle.first_links.specs.Tiers.{Hit, hits_from, members_of, owned, project_tier, elements_of, owner_in, outward, lexical_tiers, deciding, is_element, pick}
 use Rattle.first_links.specs.Linking.{ask}
 use Rattle.first_reader.specs.Grammar.{package_of}
-use Rattle.first_reader.specs.PackageModel.{definition_element, definition_members, definition_references, general_reference, model_of, model_from, model_of_text}
+use Rattle.first_reader.specs.PackageModel.{definition_element, definition_members, definition_references, general_reference, model_of, model_from}
 use Rattle.first_reader.specs.declared.package.Written.{Written}
 use Rattle.first_reader.specs.declared.package.Definition.{Definition}
 use Rattle.first_reader.specs.declared.package.Package.{Package}
@@ -28,10 +27,13 @@ use Rattle.project_core.specs.Names.{numbers_of, two_of, bearers_in, definition_
 use Rattle.project_core.specs.Lookup.{definition_hit, root_hit, outcome_by, found_in, package_there, root_note, root_notes, general_of, general_at, reference_at, table_row, table_rows}
 use Rattle.project_core.specs.Places.{place_in}
 use Rattle.session_model.specs.Texts.{references_of}
-use Rattle.project_core.specs.Rows.{link_rows, rows_of, rows_in, IsLiveElement, IsLiveMember, IsLiveReference, IsLiveOutcome, AreLive}
+use Rattle.project_core.specs.Rows.{link_rows, rows_of, rows_in, IsLiveElement, IsLiveMember, IsLiveOutcome, AreLive}
 use Rattle.project_core.specs.declared.faults.QueryFault.TheVariants.{NoSuchFile}
 use Rattle.project_core.proofs.NameLaws.{index_member, numbers_below}
 use Rattle.project_core.proofs.FileLaws.{file_there, file_absent, number_text}
+use Rattle.session_model.proofs.Ranks.{rank_same, rank_once}
+use Rattle.linker_base.proofs.Lists.{get_seam}
+use Rattle.std.proofs.lemmas.Option.{slice_get_within}
 
 -- the first two of these hits lead to different elements
 Differ : List Hit → Type 0
@@ -109,29 +111,6 @@ definitions_picked : (f : FileNo) (x : List ℕ) (ds : List Definition)
     → pick 1 (map (definition_hit f) (numbers_of x (definition_notes 0 ds))) ≡ option_map_or (outcome_by (definition_hit f)) (two_of (numbers_of x (definition_notes 0 ds))) (Absent 1)
 definitions_picked f x ds = pick_two (definition_hit f) (numbers_of x (definition_notes 0 ds)) (definitions_differ f 0 _ (notes_rise x 0 ds))
 
--- ranking a number adds it alone
-rank_members : (book : Book) (k : ℕ) (js : List ℕ) (m : ℕ) → IsMember (rank book k js) m → (k ≡ m) ⊎ IsMember js m
-rank_members book k [] m (inl e) = inl e
-rank_members book k [] m (inr h) = elim h [ ]
-rank_members book k (j ∷ js) m h = ranked_before (is_lt (slice_cmp nat_cmp (name_at book k) (name_at book j))) k j js (rank book k js) m (rank_members book k js m) h
-  where
-    ranked_before : (b : Bool) (k j : ℕ) (js more : List ℕ) (m : ℕ) → (IsMember more m → (k ≡ m) ⊎ IsMember js m) → IsMember (cond b (k ∷ j ∷ js) (j ∷ more)) m → (k ≡ m) ⊎ IsMember (j ∷ js) m
-    ranked_before true k j js more m step (inl e) = inl e
-    ranked_before true k j js more m step (inr h) = inr h
-    ranked_before false k j js more m step (inl e) = inr (inl e)
-    ranked_before false k j js more m step (inr h) = elim (step h) [ inl e ↦ inl e | inr g ↦ inr (inr g) ]
-
--- ranking a new number leaves each once
-rank_once : (book : Book) (k : ℕ) (js : List ℕ) → (IsMember js k → ⊥) → IsEachOnce js → IsEachOnce (rank book k js)
-rank_once book k [] new once = (λ h. elim h [ ], tt)
-rank_once book k (j ∷ js) new once =
-    once_before (is_lt (slice_cmp nat_cmp (name_at book k) (name_at book j))) k j js (rank book k js) new once
-    (λ h. elim (rank_members book k js j h) [ inl e ↦ new (inl (sym e)) | inr g ↦ once.0 g ]) (rank_once book k js (λ h. new (inr h)) once.1)
-  where
-    once_before : (b : Bool) (k j : ℕ) (js more : List ℕ) → (IsMember (j ∷ js) k → ⊥) → IsEachOnce (j ∷ js) → (IsMember more j → ⊥) → IsEachOnce more → IsEachOnce (cond b (k ∷ j ∷ js) (j ∷ more))
-    once_before true k j js more new once other rest = (new, once)
-    once_before false k j js more new once other rest = (other, rest)
-
 -- the ranked ones of the first n files are below n
 ranked_below : (book : Book) (n m : ℕ) → IsMember (ranked_upto book n) m → m < n
 ranked_below book zero m h = elim h [ ]
@@ -139,7 +118,7 @@ ranked_below book (suc n) m h = below (text_at book n) n m (ranked_upto book n) 
   where
     below : (o : Option (List ℕ)) (n m : ℕ) (js : List ℕ) → (IsMember js m → m < n) → IsMember (option_map_or (λ text. rank book n js) o js) m → m < suc n
     below None n m js step h = omega (arith, step h)
-    below (Some text) n m js step h = elim (rank_members book n js m h) [ inl e ↦ omega (arith, e) | inr g ↦ omega (arith, step g) ]
+    below (Some text) n m js step h = elim ((rank_same book n js).left m h) [ inl e ↦ omega (arith, e) | inr g ↦ omega (arith, step g) ]
 
 -- each file is ranked once
 ranked_once : (book : Book) (n : ℕ) → IsEachOnce (ranked_upto book n)
@@ -148,7 +127,7 @@ ranked_once book (suc n) = once (text_at book n) n (ranked_upto book n) (λ h. a
   where
     once : (o : Option (List ℕ)) (n : ℕ) (js : List ℕ) → (IsMember js n → ⊥) → IsEachOnce js → IsEachOnce (option_map_or (λ text. rank book n js) o js)
     once None n js new rest = rest
-    once (Some text) n js new rest = rank_once book n js new rest
+    once (Some text) n js new rest = rank_once book n js rest new
 
 -- the numbers noted for packages are among the files' numbers
 root_members : (book : Book) (x : List ℕ) (ks : List ℕ) (m : ℕ) → IsMember (numbers_of x (root_notes book ks)) m → IsMember ks m
@@ -289,11 +268,6 @@ found_asks book k text p roots x i place here package_is table h =
     let at_start : (o : Option ℕ) → Type 0 = λ o. option_map_or (λ start. pick 1 (deciding (lexical_tiers (files_of book) x (record { file = f; index = start })))) o (Absent 1) ≡ found_in f p roots x in
     subst at_start (sym (ap (λ es. owner_in es (i + 2)) elements_are ∙ definition_owner p i h)) (subst tiers (sym elements_are) three)
 
--- a list that goes on has its next item at the seam
-get_seam : (front ds : List Definition) (d : Definition) → slice_get (front ++ d ∷ ds) (length front) ≡ Some d
-get_seam [] ds d = refl
-get_seam (c ∷ front) ds d = get_seam front ds d
-
 one_more : (front : List Definition) (d : Definition) → length (front ++ d ∷ []) ≡ length front + 1
 one_more front d = length-append front (d ∷ [])
 
@@ -342,14 +316,9 @@ rows_more files f text k (q ∷ rs) r =
 pub general_there : (ds : List Definition) (r : ℕ) → r < length (generals_from 0 ds) → (d : Definition) × (g : Written) × (slice_get ds (slice_index (generals_from 0 ds) r) ≡ Some d) × (d.general ≡ Some g)
 general_there ds r h = generals_there [] ds (slice_index (generals_from 0 ds) r) (index_member (generals_from 0 ds) r h)
 
-get_below : {A : Type 0} (xs : List A) (i : ℕ) (x : A) → slice_get xs i ≡ Some x → i < length xs
-get_below [] i x e = cc
-get_below (y ∷ xs) zero x e = omega arith
-get_below (y ∷ xs) (suc i) x e = omega (arith, get_below xs i x e)
-
 -- so its number is in range
 pub general_below : (ds : List Definition) (r : ℕ) → r < length (generals_from 0 ds) → slice_index (generals_from 0 ds) r < length ds
-general_below ds r h = let t = general_there ds r h in get_below ds _ t.0 t.2
+general_below ds r h = let t = general_there ds r h in slice_get_within ds _ t.0 t.2
 
 -- ranking a number inserts it before the first name that is above its own
 pub rank_insert : (book : Book) (k : ℕ) (js : List ℕ) → rank book k js ≡ insert js (prefix_len (λ j. not (is_lt (slice_cmp nat_cmp (name_at book k) (name_at book j)))) js) k
@@ -397,7 +366,7 @@ links_are book name text p roots here package_is table =
     ap (rows_of (files_of book) (file_number k)) (file_there book k text here ∙ ap (λ o. Some (record { name = name_at book k; text = text; model = model_from o })) package_is)
     ∙ ap (λ rs. Ok (link_rows (files_of book) (file_number k) text 0 rs)) (references_are [] p.definitions)
     ∙ ap Ok (rows_by_tables book k text p roots here package_is table 0 (generals_from 0 p.definitions)
-    (λ n m. let t = generals_there [] p.definitions n m in get_below p.definitions n t.0 t.2))
+    (λ n m. let t = generals_there [] p.definitions n m in slice_get_within p.definitions n t.0 t.2))
 
 -- the rows of a file out of the profile
 pub links_bare : (book : Book) (name text : List ℕ) → text_at book (number_in book name).0 ≡ Some text → package_of text ≡ None → rows_in book name ≡ Ok []

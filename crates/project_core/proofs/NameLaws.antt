@@ -1,6 +1,6 @@
 -- A table of names, a note at a time.
 use Rattle.std.proofs.Common.{◌≡◌, ℕ, ◌+◌, Bool, true, false, cond, nat_eq, List, [], ◌∷◌, ◌++◌, length, take, get_or, ◌<◌, ◌≤◌, rules, length-take-le, refl, sym, ◌∙◌, ap, subst, append-nil, arith, inl, inr}
-use Rattle.std.specs.Prelude.{suc, zero, Option, None, Some, IfSome, unwrap_or, slice_index}
+use Rattle.std.specs.Prelude.{suc, zero, Option, None, Some, IfSome, slice_index}
 use Rattle.linker_base.specs.Members.{IsMember}
 use Rattle.std.specs.Option.{option_map_or}
 use Rattle.first_reader.specs.declared.package.Written.{Written}

@@ -1,11 +1,9 @@
 -- Lines and columns, a byte at a time.
-use Rattle.std.proofs.Common.{◌≡◌, ℕ, ◌+◌, ◌<◌, ◌≤◌, zero, suc, Bool, true, false, cond, nat_eq, not, List, [], ◌∷◌, ◌++◌, length, take, get_or, reverse, count_by, refl, sym, ◌∙◌, ap, arith, rules, length-take-le}
+use Rattle.std.proofs.Common.{◌≡◌, ℕ, ◌+◌, ◌<◌, ◌≤◌, Bool, true, false, cond, nat_eq, not, List, [], ◌∷◌, length, take, get_or, reverse, count_by, refl, ◌∙◌, ap, arith, length-take-le}
 use Rattle.std.proofs.lemmas.List.{take_more, reverse-append, length-reverse}
 use Rattle.std.proofs.lemmas.List.Sums.{fold-append, count_by-le-length, prefix_len-le-length}
 use Rattle.std.specs.List.{prefix_len}
 use Rattle.session_model.specs.Texts.{line_at, column_at}
-use Rattle.project_core.specs.Places.{IsAt}
-use Rattle.project_core.specs.declared.place.Cursor.{Cursor}
 
 -- a line more after an LF
 pub line_next : (text : List ℕ) (i : ℕ) → i < length text → line_at text (i + 1) ≡ line_at text i + cond (nat_eq (get_or text i 0) 10) 1 0

@@ -1,15 +1,14 @@
 -- What the queries read of the model of a package.
-use Rattle.std.proofs.Common.{◌≡◌, ℕ, ◌+◌, ◌-◌, ◌<◌, ◌≤◌, zero, suc, List, [], ◌∷◌, ◌++◌, length, map, codes, refl, sym, ◌∙◌, ap, subst, arith, inl, inr}
-use Rattle.std.specs.Prelude.{Option, None, Some, slice_get, slice_index, slice_index_or, ◌⊎◌}
+use Rattle.std.proofs.Common.{◌≡◌, ℕ, ◌+◌, ◌-◌, ◌<◌, zero, suc, List, [], ◌∷◌, ◌++◌, length, map, codes, refl, sym, ◌∙◌, ap, subst, arith, inl, inr}
+use Rattle.std.specs.Prelude.{None, Some, slice_get, slice_index}
 use Rattle.std.specs.Option.{option_map_or}
 use Rattle.linker_base.proofs.Cases.{option_cases}
 use Rattle.element_store.specs.declared.numbers.ElementNo.{ElementNo}
 use Rattle.element_store.specs.declared.numbers.MemberNo.{MemberNo}
 use Rattle.element_store.specs.declared.numbers.RefNo.{RefNo}
-use Rattle.first_links.specs.Model.{Element, Member, Reference, Model, Source, Files}
-use Rattle.first_links.specs.Tiers.{elements_of, members_of, owner_in}
+use Rattle.first_links.specs.Tiers.{elements_of, members_of}
 use Rattle.first_reader.specs.Grammar.{package_of}
-use Rattle.first_reader.specs.PackageModel.{definition_element, definition_members, definition_references, model_of, model_from, model_of_text}
+use Rattle.first_reader.specs.PackageModel.{definition_element, definition_members, model_of, model_from, model_of_text}
 use Rattle.first_reader.specs.declared.package.Definition.{Definition}
 use Rattle.first_reader.specs.declared.package.Package.{Package}
 use Rattle.session_model.specs.Book.{Book, text_at, name_at, ranked, file_number, files_of}
@@ -21,7 +20,7 @@ use Rattle.project_core.specs.Names.{generals_from, IsTable}
 use Rattle.project_core.specs.Lookup.{general_at, reference_at, root_notes, table_rows}
 use Rattle.project_core.specs.Places.{place_in, member_place, member_place_in}
 use Rattle.project_core.proofs.FileLaws.{file_there, file_absent}
-use Rattle.project_core.proofs.LinkLaws.{rows_live, references_are, definition_owner, get_two, get_map, get_there}
+use Rattle.project_core.proofs.LinkLaws.{rows_live, references_are, definition_owner, get_two, get_map}
 
 -- mapping keeps the length
 length_map : {A B : Type 0} (f : A → B) (xs : List A) → length (map f xs) ≡ length xs

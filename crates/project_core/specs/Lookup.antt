@@ -1,5 +1,5 @@
 -- What the tables of names give for a name, as the code looks it up.
-use Rattle.std.specs.Prelude.{◌≡◌, ℕ, ◌+◌, cond, nat_eq, List, [], ◌∷◌, ◌++◌, Option, Some, None, slice_get}
+use Rattle.std.specs.Prelude.{ℕ, ◌+◌, cond, nat_eq, List, [], ◌∷◌, Option, Some, None, slice_get}
 use Rattle.std.specs.Option.{option_map_or}
 use Rattle.std.specs.Cmp.Lexicographic.{pointwise}
 use Rattle.element_store.specs.declared.numbers.FileNo.{FileNo}
@@ -20,21 +20,29 @@ use Rattle.project_core.specs.declared.rows.LinkRow.{LinkRow}
 
 -- the hit of the package's definition with the number
 abbrev pub definition_hit : FileNo → ℕ → Hit
-definition_hit f k = record { member = record { file = f; index = k + 1 }; element = record { file = f; index = k + 2 } }
+definition_hit f k = record {
+  member = record { file = f; index = k + 1 };
+  element = record { file = f; index = k + 2 };
+}
 
 -- the hit of the package of the file with the number
 abbrev pub root_hit : ℕ → Hit
-root_hit k = record { member = record { file = file_number k; index = 0 }; element = record { file = file_number k; index = 1 } }
+root_hit k = record {
+  member = record { file = file_number k; index = 0 };
+  element = record { file = file_number k; index = 1 };
+}
 
 -- the outcome of the least two hits of a tier
 abbrev pub outcome_by : (ℕ → Hit) → Bearers → Outcome
-outcome_by hit b = option_map_or (λ s. Ambiguous 1 (hit b.first).member (hit s).member) b.second (Linked [] (hit b.first).element)
+outcome_by hit b = option_map_or (λ s. Ambiguous 1 (hit b.first).member (hit s).member) b.second
+    (Linked [] (hit b.first).element)
 
 -- the outcome of a name: among the package's definitions, then the package itself, then the packages of all files
 abbrev pub found_in : FileNo → Package → List (List ℕ × Bearers) → List ℕ → Outcome
 found_in f p roots x =
     option_map_or (outcome_by (definition_hit f)) (two_of (numbers_of x (definition_notes 0 p.definitions)))
-    (cond (pointwise nat_eq x p.name) (Linked [] (record { file = f; index = 1 })) (option_map_or (outcome_by root_hit) (bearers_in roots x) (Absent 1)))
+    (cond (pointwise nat_eq x p.name) (Linked [] (record { file = f; index = 1 }))
+    (option_map_or (outcome_by root_hit) (bearers_in roots x) (Absent 1)))
 
 -- the package of a text that is there
 abbrev pub package_there : Option (List ℕ) → Option Package
@@ -48,7 +56,8 @@ root_note book k = option_map_or (λ p. (p.name, k) ∷ []) (package_there (text
 -- the names of the packages of these files, with the files' numbers
 abbrev pub root_notes : Book → List ℕ → List (List ℕ × ℕ)
 root_notes book [] = []
-root_notes book (k ∷ ks) = option_map_or (λ p. (p.name, k) ∷ root_notes book ks) (package_there (text_at book k)) (root_notes book ks)
+root_notes book (k ∷ ks) =
+    option_map_or (λ p. (p.name, k) ∷ root_notes book ks) (package_there (text_at book k)) (root_notes book ks)
 
 -- the general of the definition with the number
 abbrev pub general_of : Option Definition → Written
@@ -60,7 +69,12 @@ general_at ds k = general_of (slice_get ds k)
 
 -- the reference of the definition with the number to its general
 abbrev pub reference_at : List Definition → ℕ → Reference
-reference_at ds k = record { role = Subclass; context = k + 2; path = (general_at ds k).name ∷ []; place = (general_at ds k).place }
+reference_at ds k = record {
+  role = Subclass;
+  context = k + 2;
+  path = (general_at ds k).name ∷ [];
+  place = (general_at ds k).place;
+}
 
 -- the row of the reference with the number j, that of the definition with the number k to its general, by the tables
 abbrev pub table_row : FileNo → List ℕ → Package → List (List ℕ × Bearers) → ℕ → ℕ → LinkRow

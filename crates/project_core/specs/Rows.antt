@@ -1,19 +1,18 @@
 -- What the queries of a project tell of its book.
-use Rattle.std.specs.Prelude.{◌≡◌, ℕ, ◌+◌, ◌-◌, ◌<◌, List, [], ◌∷◌, length, Option, Some, None, Result, Ok, Err, slice_get}
-use Rattle.std.specs.Option.{option_map_or}
+use Rattle.std.specs.Prelude.{◌≡◌, ℕ, ◌+◌, ◌-◌, ◌<◌, List, [], ◌∷◌, length, Option, Some, None, Result, Ok, Err}
 use Rattle.element_store.specs.declared.numbers.FileNo.{FileNo}
 use Rattle.element_store.specs.declared.numbers.ElementNo.{ElementNo}
 use Rattle.element_store.specs.declared.numbers.MemberNo.{MemberNo}
 use Rattle.element_store.specs.declared.numbers.RefNo.{RefNo}
 use Rattle.element_store.specs.declared.outcome.Outcome.{Outcome}
 use Rattle.element_store.specs.declared.outcome.Outcome.TheVariants.{Linked, Absent, Ambiguous, Hidden, Cyclic}
-use Rattle.first_links.specs.Model.{Model, Member, Reference, Source, Files}
+use Rattle.first_links.specs.Model.{Reference, Source, Files}
 use Rattle.first_links.specs.Tiers.{members_of, elements_of}
 use Rattle.first_links.specs.Linking.{ask}
 use Rattle.first_reader.specs.Grammar.{package_of}
 use Rattle.first_reader.specs.PackageModel.{model_of}
 use Rattle.first_reader.specs.declared.package.Package.{Package}
-use Rattle.session_model.specs.Book.{Book, text_in, number_in, files_of}
+use Rattle.session_model.specs.Book.{Book, number_in, files_of}
 use Rattle.session_model.specs.Texts.{references_of}
 use Rattle.project_core.specs.Places.{place_in}
 use Rattle.project_core.specs.declared.faults.FileFault.TheVariants.{Syntax}
@@ -22,7 +21,6 @@ use Rattle.project_core.specs.declared.faults.QueryFault.TheVariants.{NoSuchFile
 use Rattle.project_core.specs.declared.rows.FileReport.{FileReport}
 use Rattle.project_core.specs.declared.rows.FileReport.TheVariants.{In, Refused}
 use Rattle.project_core.specs.declared.rows.LinkRow.{LinkRow}
-use Rattle.project_core.specs.declared.place.Place.{Place}
 
 -- the report of a text: its package's numbers, or the fault of a text out of the profile
 abbrev pub report_of : List ℕ → Option Package → FileReport
@@ -38,7 +36,12 @@ report_in (Some text) = Ok (report_of text (package_of text))
 abbrev pub link_rows : Files → FileNo → List ℕ → ℕ → List Reference → List LinkRow
 link_rows files f text k [] = []
 link_rows files f text k (r ∷ rs) =
-    record { reference = record { file = f; index = k }; role = r.role; place = place_in text r.place; outcome = ask files f r } ∷ link_rows files f text (k + 1) rs
+    record {
+      reference = record { file = f; index = k };
+      role = r.role;
+      place = place_in text r.place;
+      outcome = ask files f r;
+    } ∷ link_rows files f text (k + 1) rs
 
 -- the rows of a file, if there is one
 abbrev pub rows_of : Files → FileNo → Option Source → Result (List LinkRow) QueryFault

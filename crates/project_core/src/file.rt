@@ -7,12 +7,10 @@ ghost use Rattle.project_core.specs.Names.{IsTable, IsWithinCount, numbers_of, t
 use crate::names::{Bearers, NameTable};
 use element_store::{Name, Text};
 use first_reader::{Definition, Package, Written, read};
+use linker_base::limits::FILE_BYTES;
 use linker_base::{Listing, NoMemory};
 use std::alloc::Global;
 use std::marker::Model;
-
-/// The most bytes that the text of a file has.
-pub const FILE_BYTES: usize = 1_048_576;
 
 /// The package of a text in the profile, with a table of its definitions by their names and the
 /// numbers of those that have a general.
@@ -32,7 +30,8 @@ impl Model for FileModel {
 
     ghost view = { λ m. m.package };
 
-    ghost invariant = { λ m. IsTable m.names (definition_notes 0 m.package.definitions) × (m.generals ≡ generals_from 0 m.package.definitions) };
+    ghost invariant = { λ m. IsTable m.names (definition_notes 0 m.package.definitions)
+        × (m.generals ≡ generals_from 0 m.package.definitions) };
 }
 
 /// The table of the names of a package's definitions.
@@ -53,7 +52,8 @@ fn keep_general(
     number: u32,
     definition: &Definition,
 ) -> Result<(), NoMemory>
-    ensures { OnOk result (generals.new ≡ generals.old ++ option_map_or (λ g. number ∷ []) definition.now.general []) }
+    ensures { OnOk result (generals.new ≡ generals.old
+        ++ option_map_or (λ g. number ∷ []) definition.now.general []) }
 {
     match &definition.general {
         Some(_) => generals.push(number),
@@ -114,7 +114,8 @@ impl FileModel {
     /// Lends the general of the reference with the number.
     pub fn general(&self, reference: usize) -> &Written
         requires { reference < length (generals_from 0 self.now.definitions) }
-        ensures { result.now ≡ general_at self.now.definitions (slice_index (generals_from 0 self.now.definitions) reference) }
+        ensures { result.now ≡ general_at self.now.definitions
+            (slice_index (generals_from 0 self.now.definitions) reference) }
     {
         let number = self.generals.as_slice()[reference];
         match &self.package.definitions.as_slice()[number as usize].general {
@@ -125,7 +126,8 @@ impl FileModel {
 
     /// The first two definitions that bear the name, by their numbers in the package, from 0.
     pub fn named(&self, name: &Name) -> Option<Bearers>
-        ensures found { result ≡ two_of (numbers_of name.now (definition_notes 0 self.now.definitions)) }
+        ensures found { result ≡ two_of (numbers_of name.now
+            (definition_notes 0 self.now.definitions)) }
         ensures within { IfSome result (IsWithinCount (length self.now.definitions)) }
     {
         self.names.find(name)
@@ -153,7 +155,7 @@ impl Model for File {
 impl File {
     /// Reads a text of at most `FILE_BYTES` bytes.
     pub fn read(alloc: Global, text: Text) -> Result<File, NoMemory>
-        requires { length text ≤ 1048576 }
+        requires { length text ≤ FILE_BYTES }
         ensures { IfOk result (λ file. file ≡ text) }
     {
         let model = match read(alloc, text.bytes())? {
@@ -166,7 +168,7 @@ impl File {
     /// Lends the text.
     pub fn text(&self) -> &[u8]
         ensures text { result.now ≡ self.now }
-        ensures short { length self.now ≤ 1048576 }
+        ensures short { length self.now ≤ FILE_BYTES }
     {
         self.text.bytes()
     }
@@ -174,7 +176,7 @@ impl File {
     /// Lends the model, where the text is in the profile.
     pub fn model(&self) -> Option<&FileModel>
         ensures model { option_copied result ≡ package_of self.now }
-        ensures few { IfSome result (λ model. length model.now.definitions ≤ 1048576) }
+        ensures few { IfSome result (λ model. length model.now.definitions ≤ FILE_BYTES) }
     {
         self.model.as_ref()
     }

@@ -19,6 +19,7 @@ use crate::project::Project;
 use crate::rows::{LinkRow, LinkRows};
 use element_store::{ElementNo, Elements, FileName, FileNo, MemberNo, Name, Outcome, RefNo, Role};
 use linker_base::NoMemory;
+use linker_base::limits::FILE_BYTES;
 use std::alloc::Global;
 
 /// A member of a namespace, and the element to which it leads.
@@ -67,7 +68,8 @@ impl Found {
 
 /// The outcome of a tier with these two least members that lead to different elements.
 fn outcome_of(alloc: Global, first: Found, second: Option<Found>) -> Outcome
-    ensures { result ≡ option_map_or (λ s. Ambiguous 1 first.member s.member) second (Linked [] first.element) }
+    ensures { result ≡ option_map_or (λ s. Ambiguous 1 first.member s.member) second
+        (Linked [] first.element) }
 {
     match second {
         Some(second) => Outcome::Ambiguous {
@@ -114,7 +116,7 @@ fn look_up(
     packages: &NameTable,
     name: &Name,
 ) -> Outcome
-    requires { length model.now.definitions ≤ 1048576 }
+    requires { length model.now.definitions ≤ FILE_BYTES }
     ensures { result ≡ found_in file model.now packages.now name.now }
 {
     if let Some(bearers) = model.named(name) {
@@ -142,12 +144,13 @@ fn row_of(
     cursor: &mut Cursor,
     number: usize,
 ) -> LinkRow
-    requires short { length text.now ≤ 1048576 }
-    requires few { length model.now.definitions ≤ 1048576 }
+    requires short { length text.now ≤ FILE_BYTES }
+    requires few { length model.now.definitions ≤ FILE_BYTES }
     requires number { number < length (generals_from 0 model.now.definitions) }
     requires small { number < 2 ^ 32 }
     requires at { IsAt text.now cursor.old }
-    ensures row { result ≡ table_row file text.now model.now packages.now number (slice_index (generals_from 0 model.now.definitions) number) }
+    ensures row { result ≡ table_row file text.now model.now packages.now number
+        (slice_index (generals_from 0 model.now.definitions) number) }
     ensures at { IsAt text.now cursor.new }
 {
     let general = model.general(number);
@@ -170,9 +173,11 @@ fn rows_of(
     model: &FileModel,
     packages: &NameTable,
 ) -> Result<LinkRows, NoMemory>
-    requires short { length text.now ≤ 1048576 }
-    requires few { length model.now.definitions ≤ 1048576 }
-    ensures { IfOk result (λ rows. rows ≡ table_rows file text.now model.now packages.now 0 (generals_from 0 model.now.definitions)) }
+    requires short { length text.now ≤ FILE_BYTES }
+    requires few { length model.now.definitions ≤ FILE_BYTES }
+    ensures { IfOk result (λ rows. rows
+        ≡ table_rows file text.now model.now packages.now 0
+        (generals_from 0 model.now.definitions)) }
 {
     let mut rows = LinkRows::new(alloc);
     let mut cursor = Cursor::start();
@@ -186,14 +191,17 @@ fn rows_of(
 impl Project {
     /// Whether the name of one file is below that of another in byte order.
     fn is_below(&self, number: u32, other: u32) -> bool
-        ensures { result ≡ is_lt (slice_cmp nat_cmp (name_at self.now number) (name_at self.now other)) }
+        ensures { result ≡ is_lt (slice_cmp nat_cmp (name_at self.now number)
+            (name_at self.now other)) }
     {
         self.name(number).cmp(self.name(other)).is_lt()
     }
 
     /// Where a file goes among those that are in byte order of their names.
     fn place_for(&self, order: &[u32], number: u32) -> usize
-        ensures value { result ≡ prefix_len (λ other. not (is_lt (slice_cmp nat_cmp (name_at self.now number) (name_at self.now other)))) order.now }
+        ensures value { result ≡ prefix_len (λ other.
+            not (is_lt (slice_cmp nat_cmp (name_at self.now number)
+            (name_at self.now other)))) order.now }
     {
         order
             .iter()
@@ -203,7 +211,9 @@ impl Project {
 
     /// The numbers in byte order of names with one more, if that file is present.
     fn ranked_with(&self, mut order: Vec<u32>, number: u32) -> Result<Vec<u32>, NoMemory>
-        ensures { IfOk result (λ ranked. ranked.items ≡ option_map_or (λ text. rank self.now number order.items) (text_at self.now number) order.items) }
+        ensures { IfOk result (λ ranked. ranked.items
+            ≡ option_map_or (λ text. rank self.now number order.items)
+            (text_at self.now number) order.items) }
     {
         let Some(_) = self.present(number) else {
             return Ok(order);
@@ -226,7 +236,8 @@ impl Project {
 
     /// Notes the package of a file, if its text is in the profile.
     fn note_package(&self, packages: &mut NameTable, number: u32) -> Result<(), NoMemory>
-        ensures { OnOk result ((notes : List (List ℕ × ℕ)) → IsTable packages.old notes → IsTable packages.new (notes ++ root_note self.now number)) }
+        ensures { OnOk result ((notes : List (List ℕ × ℕ)) → IsTable packages.old notes
+            → IsTable packages.new (notes ++ root_note self.now number)) }
     {
         let Some(file) = self.present(number) else {
             return Ok(());
@@ -239,7 +250,8 @@ impl Project {
 
     /// The packages of all files by their names.
     fn packages(&self) -> Result<NameTable, NoMemory>
-        ensures { IfOk result (λ packages. IsTable packages (root_notes self.now (ranked self.now))) }
+        ensures { IfOk result
+            (λ packages. IsTable packages (root_notes self.now (ranked self.now))) }
     {
         let order = self.ranked()?;
         let mut packages = NameTable::new(self.alloc());

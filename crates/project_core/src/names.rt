@@ -76,7 +76,8 @@ impl NameTable {
 
     /// Notes a number under the name; numbers are noted in rising order.
     pub fn note(&mut self, alloc: Global, name: &Name, number: u32) -> Result<(), NoMemory>
-        ensures { OnOk result ((notes : List (List ℕ × ℕ)) → IsTable self.old notes → IsTable self.new (notes ++ (name.now, number) ∷ [])) }
+        ensures { OnOk result ((notes : List (List ℕ × ℕ)) → IsTable self.old notes
+            → IsTable self.new (notes ++ (name.now, number) ∷ [])) }
     {
         let bearers = self.bearers_with(name, number);
         let key = Name::of(Vec::from_slice(alloc, name.bytes())?);

@@ -1,6 +1,8 @@
 ghost use Rattle.std.specs.Prelude.{◌≡◌, ◌≤◌, ℕ, List, length};
 ghost use Rattle.project_core.specs.Places.{place_in, IsAt};
 
+use linker_base::limits::FILE_BYTES;
+
 /// A place in a text: its line and its column, both from 1, the column in bytes.
 #[derive(Clone, Copy, Debug, PartialEq, Eq)]
 pub struct Place {
@@ -42,7 +44,7 @@ impl Cursor {
     /// the end.
     pub fn place(&mut self, text: &[u8], to: usize) -> Place
         requires at { IsAt text.now self.old }
-        requires short { length text.now ≤ 1048576 }
+        requires short { length text.now ≤ FILE_BYTES }
         ensures place { result ≡ place_in text.now to }
         ensures at { IsAt text.now self.new }
     {

@@ -5,19 +5,14 @@ ghost use Rattle.std.specs.Option.{option_map_or};
 ghost use Rattle.project_core.specs.Edits.{edited_by};
 
 use crate::faults::ApplyFault;
-use crate::file::{FILE_BYTES, File};
+use crate::file::File;
 use demand_core::{Ledger, Steps};
 use element_store::{FileName, FileNo, Text};
 use indexmap::IndexMap;
 use linker_base::NoMemory;
+use linker_base::limits::{BOOK_BYTES, FILE_BYTES, NAMES};
 use std::alloc::Global;
 use std::marker::Model;
-
-/// The most names that a book has, dropped ones included.
-pub const NAMES: usize = 1024;
-
-/// The most bytes that all present texts of a book have together.
-pub const BOOK_BYTES: usize = 33_554_432;
 
 /// A file of a library. No project file can have its name.
 #[derive(Clone, Copy, Debug, PartialEq, Eq)]
@@ -102,8 +97,11 @@ impl Project {
 
     /// The bytes of all present texts after a put of so many bytes, or the number that it would pass.
     fn bytes_after(&self, name: &FileName, size: usize) -> Result<usize, u64>
-        ensures room { IfOk result (λ bytes. (text : List ℕ) → length text ≡ size → (bytes ≡ bytes_in (put_in self.now name.now text)) × (edited self.now name.now text ≡ Changed (put_in self.now name.now text))) }
-        ensures full { IfErr result (λ number. (text : List ℕ) → length text ≡ size → edited self.now name.now text ≡ Refused number) }
+        ensures room { IfOk result (λ bytes. (text : List ℕ) → length text ≡ size
+            → (bytes ≡ bytes_in (put_in self.now name.now text))
+            × (edited self.now name.now text ≡ Changed (put_in self.now name.now text))) }
+        ensures full { IfErr result (λ number. (text : List ℕ) → length text ≡ size
+            → edited self.now name.now text ≡ Refused number) }
     {
         if size > FILE_BYTES {
             return Err(FILE_BYTES as u64);
@@ -126,7 +124,8 @@ impl Project {
         steps: &mut Steps<L>,
     ) -> Result<Applied, ApplyFault>
         ensures changed { OnOk result (edited_by self.old edit ≡ Changed self.new) }
-        ensures limit { (number : ℕ) → (result ≡ Err (ApplyFault.Limit number)) ↔ (edited_by self.old edit ≡ Refused number) }
+        ensures limit { (number : ℕ) → (result ≡ Err (ApplyFault.Limit number))
+            ↔ (edited_by self.old edit ≡ Refused number) }
         ensures unchanged { OnErr result (self.new ≡ self.old) }
         ensures steps { steps.new ≡ steps.old }
     {

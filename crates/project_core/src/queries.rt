@@ -13,11 +13,12 @@ use crate::place::{Cursor, Place};
 use crate::project::Project;
 use crate::rows::FileReport;
 use element_store::{ElementNo, FileName, FileNo, MemberNo, RefNo, Text};
+use linker_base::limits::FILE_BYTES;
 use std::alloc::Global;
 
 /// The place in a text.
 fn place_of(text: &[u8], at: u32) -> Place
-    requires { length text.now ≤ 1048576 }
+    requires { length text.now ≤ FILE_BYTES }
     ensures { result ≡ place_in text.now at }
 {
     Cursor::start().place(text, at as usize)
@@ -70,7 +71,8 @@ fn joined(alloc: Global, owner: &[u8], name: &[u8]) -> Result<Text, QueryFault>
 /// The label of an element of a package's file.
 fn element_label(alloc: Global, model: &FileModel, index: u32) -> Result<Text, QueryFault>
     requires { index < length (model_of model.now).elements }
-    ensures text { IfOk result (λ text. text ≡ label_within (model_of model.now).elements (length (model_of model.now).elements) index) }
+    ensures text { IfOk result (λ text. text
+        ≡ label_within (model_of model.now).elements (length (model_of model.now).elements) index) }
     ensures fault { IfErr result (λ fault. fault ≡ QueryFault.NoMemory) }
 {
     let owner = model.package().name.bytes();
@@ -87,7 +89,8 @@ fn element_label(alloc: Global, model: &FileModel, index: u32) -> Result<Text, Q
 /// The place of a member of a package's file, in bytes from the start of the text.
 fn member_start(model: &FileModel, index: u32) -> u32
     requires { index < length (model_of model.now).members }
-    ensures { result ≡ option_map_or (λ member. member.place) (slice_get (model_of model.now).members index) 0 }
+    ensures { result ≡ option_map_or (λ member. member.place)
+        (slice_get (model_of model.now).members index) 0 }
 {
     if index == 0 {
         return model.package().place;

@@ -25,10 +25,6 @@ place_next byte bytes i d lt before here m =
 pub place_parts : (bytes : List ℕ) (i d : ℕ) → i < length bytes → bytes ≡ take i bytes ++ get_or bytes i d ∷ drop (i + 1) bytes
 place_parts bytes i d lt = sym (take-append-drop i bytes) ∙ ap (λ xs. take i bytes ++ xs) (drop-cons bytes i d lt ∙ ap (λ k. get_or bytes i d ∷ drop k bytes) (sym (add-one i)))
 
--- the rest of a slice, as code takes it
-pub rest_is : (n : ℕ) (xs : List ℕ) → take (length xs - n) (drop n xs) ≡ drop n xs
-rest_is n xs = ap (λ k. take k (drop n xs)) (sym (length-drop n xs)) ∙ take-length (drop n xs)
-
 -- nothing follows the last of a list
 drop_past : (bytes : List ℕ) (i : ℕ) → length bytes ≤ i → drop i bytes ≡ []
 drop_past [] zero le = refl

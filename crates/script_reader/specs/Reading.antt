@@ -1,5 +1,6 @@
 -- What a call of the reader takes, and what it gives.
 use Rattle.std.specs.Prelude.{◌≡◌, ℕ, ◌+◌, ◌^◌, ◌<◌, ◌≤◌, List, [], ◌∷◌, ◌++◌, length, take, drop, codes, Option, Some, None, Result, Ok, Err, ◌⊎◌}
+use Rattle.linker_base.specs.declared.limits.TheConstants.{INPUT_BYTES, LINE_BYTES}
 use Rattle.linker_base.specs.Counts.{Rose}
 use Rattle.linker_base.specs.Members.{IsMember}
 use Rattle.outside_core.specs.Streams.{TakenSoFar}
@@ -39,12 +40,12 @@ pub record IsBeyond (used : ℕ) (seen : List ℕ) (Within : List ℕ → Type 0
   pub front : List ℕ
   pub back : List ℕ
   pub stands : seen ≡ front ++ back
-  pub full : used + length front ≡ 2 ^ 32
+  pub full : used + length front ≡ INPUT_BYTES
   pub more : 0 < length back
   pub within : Within front
 
--- the reading stopped: what stands at the front of the bytes seen has no form, or is no whole command within the limit of
--- an input; it is no whole command, and the input ended, or a call failed; or memory was wanting
+-- the reading stopped: what stands at the front of the bytes seen has no form, or is no whole command within the
+-- limit of an input; it is no whole command, and the input ended, or a call failed; or memory was wanting
 abbrev pub Stops : ℕ → List ℕ → Option (List ℕ) → ReadStop → Type 0
 Stops used seen left Refused = IsMisspelt seen ⊎ IsBeyond used seen IsUnfinished
 Stops used seen left Ended = IsAtEnd left × IsUnfinished seen × (seen ≡ codes "end" → ⊥)
@@ -53,12 +54,15 @@ Stops used seen left NoMemory = Unit {0}
 
 -- the command's spelling stands at the front of the bytes seen; or the input ended at an `end` without its LF
 abbrev pub Stands : Meant → List ℕ → List ℕ → Option (List ℕ) → Type 0
-Stands c seen rest left = (seen ≡ spelling_of c ++ rest) ⊎ (IsAtEnd left × (c ≡ Meant.End) × (seen ≡ codes "end") × (rest ≡ []))
+Stands c seen rest left = (seen ≡ spelling_of c ++ rest)
+    ⊎ (IsAtEnd left × (c ≡ Meant.End) × (seen ≡ codes "end") × (rest ≡ []))
 
 -- the next command was read from the bytes seen, or the reading stopped
 abbrev pub IsNext : Window → Window → Option (List ℕ) → Result Command ReadStop → List ℕ → Type 0
 IsNext before after left (Ok c) seen =
-    HasForm (command_of c) × Stands (command_of c) seen after.pending left × (after.used + length after.pending ≡ before.used + length seen) × (after.used + length after.pending ≤ 2 ^ 32)
+    HasForm (command_of c) × Stands (command_of c) seen after.pending left
+    × (after.used + length after.pending ≡ before.used + length seen)
+    × (after.used + length after.pending ≤ INPUT_BYTES)
 IsNext before after left (Err stop) seen = (after.used ≡ before.used) × Stops before.used seen left stop
 
 -- a piece was put after the pending bytes, or memory was wanting
@@ -71,8 +75,10 @@ IsAppended before after piece (Err NoMemory) = after ≡ before
 
 -- one take
 abbrev pub IsFilled : Window → Window → Option (List ℕ) → Result (Unit {0}) ReadStop → List ℕ → Type 0
-IsFilled before after left (Ok u) seen = (after ≡ record { used = before.used; pending = seen }) × (length before.pending < length seen) × (before.used + length seen ≤ 2 ^ 32)
-IsFilled before after left (Err Refused) seen = (after ≡ before) × (before.used + length before.pending ≡ 2 ^ 32) × (length before.pending < length seen)
+IsFilled before after left (Ok u) seen = (after ≡ record { used = before.used; pending = seen })
+    × (length before.pending < length seen) × (before.used + length seen ≤ INPUT_BYTES)
+IsFilled before after left (Err Refused) seen = (after ≡ before) × (before.used + length before.pending ≡ INPUT_BYTES)
+    × (length before.pending < length seen)
 IsFilled before after left (Err Ended) seen = (after ≡ before) × (seen ≡ before.pending) × IsAtEnd left
 IsFilled before after left (Err ReadFault) seen = (after ≡ before) × (seen ≡ before.pending)
 IsFilled before after left (Err NoMemory) seen = after ≡ before
@@ -85,8 +91,10 @@ pub record IsShort (pending : List ℕ) (size : ℕ) (front : List ℕ) : Type 0
 
 -- at least so many bytes are pending, or the reading stopped before
 abbrev pub IsAwaited : ℕ → Window → Window → Option (List ℕ) → Result (Unit {0}) ReadStop → List ℕ → Type 0
-IsAwaited size before after left (Ok u) seen = (after ≡ record { used = before.used; pending = seen }) × (size ≤ length seen)
-IsAwaited size before after left (Err Refused) seen = (after.used ≡ before.used) × IsBeyond before.used seen (IsShort before.pending size)
+IsAwaited size before after left (Ok u) seen = (after ≡ record { used = before.used; pending = seen })
+    × (size ≤ length seen)
+IsAwaited size before after left (Err Refused) seen = (after.used ≡ before.used)
+    × IsBeyond before.used seen (IsShort before.pending size)
 IsAwaited size before after left (Err Ended) seen = (after.used ≡ before.used) × IsAtEnd left × (length seen < size)
 IsAwaited size before after left (Err ReadFault) seen = (after.used ≡ before.used) × (length seen < size)
 IsAwaited size before after left (Err NoMemory) seen = after.used ≡ before.used
@@ -94,9 +102,12 @@ IsAwaited size before after left (Err NoMemory) seen = after.used ≡ before.use
 -- a whole line is pending, its LF at this place; or the reading stopped before
 abbrev pub IsLined : Window → Window → Option (List ℕ) → Result ℕ ReadStop → List ℕ → Type 0
 IsLined before after left (Ok n) seen =
-    (after ≡ record { used = before.used; pending = seen }) × (n < length seen) × (seen ≡ take n seen ++ 10 ∷ drop (n + 1) seen) × (IsMember (take n seen) 10 → ⊥) × (n ≤ 2048)
-IsLined before after left (Err Refused) seen = (after.used ≡ before.used) × (IsMisspelt seen ⊎ IsBeyond before.used seen IsUnfinished)
-IsLined before after left (Err Ended) seen = (after ≡ record { used = before.used; pending = seen }) × IsAtEnd left × IsUnfinished seen
+    (after ≡ record { used = before.used; pending = seen }) × (n < length seen)
+    × (seen ≡ take n seen ++ 10 ∷ drop (n + 1) seen) × (IsMember (take n seen) 10 → ⊥) × (n ≤ LINE_BYTES)
+IsLined before after left (Err Refused) seen = (after.used ≡ before.used)
+    × (IsMisspelt seen ⊎ IsBeyond before.used seen IsUnfinished)
+IsLined before after left (Err Ended) seen = (after ≡ record { used = before.used; pending = seen }) × IsAtEnd left
+    × IsUnfinished seen
 IsLined before after left (Err ReadFault) seen = (after.used ≡ before.used) × IsUnfinished seen
 IsLined before after left (Err NoMemory) seen = after.used ≡ before.used
 
@@ -112,17 +123,22 @@ pub record IsOpenText (start count : ℕ) (seen : List ℕ) : Type 0 where
 -- the text of a put was read, which stands from `start` on, and its LF; or the reading stopped
 abbrev pub IsText : ℕ → ℕ → Window → Window → Option (List ℕ) → Result (List ℕ) ReadStop → List ℕ → Type 0
 IsText start count before after left (Ok text) seen =
-    (length text ≡ count) × (drop start seen ≡ text ++ 10 ∷ after.pending) × (after.used ≡ before.used + (start + count + 1)) × (start + count < length seen) × (after.used + length after.pending ≤ 2 ^ 32)
+    (length text ≡ count) × (drop start seen ≡ text ++ 10 ∷ after.pending)
+    × (after.used ≡ before.used + (start + count + 1)) × (start + count < length seen)
+    × (after.used + length after.pending ≤ INPUT_BYTES)
 IsText start count before after left (Err Refused) seen =
-    (after.used ≡ before.used) × (IsOpenText start count seen ⊎ IsBeyond before.used seen (IsShort before.pending (start + count + 1)))
-IsText start count before after left (Err Ended) seen = (after.used ≡ before.used) × IsAtEnd left × (length seen ≤ start + count)
+    (after.used ≡ before.used)
+    × (IsOpenText start count seen ⊎ IsBeyond before.used seen (IsShort before.pending (start + count + 1)))
+IsText start count before after left (Err Ended) seen = (after.used ≡ before.used) × IsAtEnd left
+    × (length seen ≤ start + count)
 IsText start count before after left (Err ReadFault) seen = (after.used ≡ before.used) × (length seen ≤ start + count)
 IsText start count before after left (Err NoMemory) seen = after.used ≡ before.used
 
 -- `end` is pending without its LF, and was read, or another text is
 abbrev pub IsBareEnd : Window → Window → Result Command ReadStop → Type 0
 IsBareEnd before after (Ok c) =
-    (command_of c ≡ Meant.End) × (before.pending ≡ codes "end") × (after.pending ≡ []) × (after.used ≡ before.used + 3) × (after.used + length after.pending ≤ 2 ^ 32)
+    (command_of c ≡ Meant.End) × (before.pending ≡ codes "end") × (after.pending ≡ []) × (after.used ≡ before.used + 3)
+    × (after.used + length after.pending ≤ INPUT_BYTES)
 IsBareEnd before after (Err Ended) = (after ≡ before) × (before.pending ≡ codes "end" → ⊥)
 IsBareEnd before after (Err Refused) = ⊥
 IsBareEnd before after (Err ReadFault) = ⊥

@@ -4,6 +4,7 @@ ghost use Rattle.script_reader.specs.Lines.{IsPlaceOf, IsByteCount, IsNamed, IsH
 use crate::command::ReadStop;
 use element_store::{FileName, Language, NameFault};
 use itoa::Buffer;
+use linker_base::limits::FILE_BYTES;
 use std::alloc::Global;
 use std::str;
 
@@ -14,9 +15,6 @@ pub(crate) enum Heading {
     Links { name: FileName },
     End,
 }
-
-/// The greatest number of bytes of a file.
-const FILE_LIMIT: usize = 1048576;
 
 /// The first place of a byte.
 pub(crate) fn place_of(byte: u8, bytes: &[u8]) -> Option<usize>
@@ -40,7 +38,7 @@ fn byte_count(digits: &[u8]) -> Option<usize>
     let Ok(count) = text.parse::<usize>() else {
         return None;
     };
-    if count > FILE_LIMIT || Buffer::new().format(count).as_bytes() != digits {
+    if count > FILE_BYTES || Buffer::new().format(count).as_bytes() != digits {
         return None;
     }
     Some(count)

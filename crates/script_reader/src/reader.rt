@@ -4,18 +4,13 @@ ghost use Rattle.script_reader.specs.Reading.{HasTaken, HasReadCause, IsNext, Is
 use crate::command::{Command, ReadStop};
 use crate::heading::{Heading, place_of, read_heading};
 use element_store::Text;
+use linker_base::limits::{FILE_BYTES, INPUT_BYTES, LINE_BYTES};
 use outside_core::Source;
 use std::alloc::Global;
 use std::marker::Model;
 
 /// How many bytes are asked of the input at once.
 const PIECE: usize = 4096;
-
-/// The greatest number of bytes of a line, without its LF.
-const LINE_LIMIT: usize = 2048;
-
-/// The greatest number of bytes of an input.
-const INPUT_LIMIT: u64 = 1 << 32;
 
 /// A reader of commands. It keeps the bytes that were taken and belong to no command yet.
 #[derive(Drop)]
@@ -28,13 +23,15 @@ pub struct ScriptReader {
 
 impl Model for ScriptReader {
     ghost use Rattle.std.specs.Prelude.{◌≡◌, ◌≤◌, ◌<◌, ◌+◌, ◌-◌, ◌^◌, drop, length};
+    ghost use Rattle.linker_base.specs.declared.limits.TheConstants.{INPUT_BYTES};
     ghost use Rattle.script_reader.specs.Reading.{Window};
 
     ghost Value = { Window };
 
     ghost view = { λ r. record { used = r.used; pending = drop r.at r.bytes.items } };
 
-    ghost invariant = { λ r. (r.at ≤ length r.bytes.items) × (r.used + length r.bytes.items ≤ r.at + 2 ^ 32) };
+    ghost invariant = { λ r. (r.at ≤ length r.bytes.items)
+        × (r.used + length r.bytes.items ≤ r.at + INPUT_BYTES) };
 }
 
 impl ScriptReader {
@@ -59,7 +56,8 @@ impl ScriptReader {
 
     /// Reads the next command.
     pub fn next<S: Source>(&mut self, input: &mut S) -> Result<Command, ReadStop>
-        ensures read { HasTaken self.old (S.left input.old) (S.left input.new) (IsNext self.old self.new (S.left input.new) result) }
+        ensures read { HasTaken self.old (S.left input.old) (S.left input.new)
+            (IsNext self.old self.new (S.left input.new) result) }
         ensures cause { HasReadCause (S.faults input.old) (S.faults input.new) result }
     {
         let line = match self.await_line(input) {
@@ -105,8 +103,11 @@ impl ScriptReader {
     /// The command that was read had so many bytes.
     fn use_up(&mut self, size: usize)
         requires { size ≤ length self.old.pending }
-        ensures after { self.new ≡ record { used = self.old.used + size; pending = drop size self.old.pending } }
-        ensures within { self.new.used + length self.new.pending ≤ 2 ^ 32 }
+        ensures after { self.new ≡ record {
+          used = self.old.used + size;
+          pending = drop size self.old.pending;
+        } }
+        ensures within { self.new.used + length self.new.pending ≤ INPUT_BYTES }
     {
         self.used += size as u64;
         self.at += size;
@@ -114,14 +115,14 @@ impl ScriptReader {
 
     /// How many bytes an input may still have.
     fn free(&self) -> u64
-        ensures { result + (self.now.used + length self.now.pending) ≡ 2 ^ 32 }
+        ensures { result + (self.now.used + length self.now.pending) ≡ INPUT_BYTES }
     {
-        INPUT_LIMIT - self.used - (self.bytes.len() - self.at) as u64
+        INPUT_BYTES - self.used - (self.bytes.len() - self.at) as u64
     }
 
     /// Puts a piece after the bytes that are pending, in place of those that were used.
     fn append(&mut self, piece: &[u8]) -> Result<(), ReadStop>
-        requires { self.old.used + (length self.old.pending + length piece.now) ≤ 2 ^ 32 }
+        requires { self.old.used + (length self.old.pending + length piece.now) ≤ INPUT_BYTES }
         ensures { IsAppended self.old self.new piece.now result }
     {
         let _ = self.bytes.drain(..self.at);
@@ -134,7 +135,8 @@ impl ScriptReader {
 
     /// Takes a piece. `Refused` means that it went beyond the limit of an input.
     fn fill<S: Source>(&mut self, input: &mut S) -> Result<(), ReadStop>
-        ensures read { HasTaken self.old (S.left input.old) (S.left input.new) (IsFilled self.old self.new (S.left input.new) result) }
+        ensures read { HasTaken self.old (S.left input.old) (S.left input.new)
+            (IsFilled self.old self.new (S.left input.new) result) }
         ensures cause { HasReadCause (S.faults input.old) (S.faults input.new) result }
     {
         let free = self.free();
@@ -155,7 +157,8 @@ impl ScriptReader {
 
     /// Takes pieces until so many bytes are pending.
     fn await_bytes<S: Source>(&mut self, input: &mut S, size: usize) -> Result<(), ReadStop>
-        ensures read { HasTaken self.old (S.left input.old) (S.left input.new) (IsAwaited size self.old self.new (S.left input.new) result) }
+        ensures read { HasTaken self.old (S.left input.old) (S.left input.new)
+            (IsAwaited size self.old self.new (S.left input.new) result) }
         ensures cause { HasReadCause (S.faults input.old) (S.faults input.new) result }
     {
         while self.pending().len() < size {
@@ -169,16 +172,17 @@ impl ScriptReader {
 
     /// Takes pieces until a whole line is pending, and says the place of its LF.
     fn await_line<S: Source>(&mut self, input: &mut S) -> Result<usize, ReadStop>
-        ensures read { HasTaken self.old (S.left input.old) (S.left input.new) (IsLined self.old self.new (S.left input.new) result) }
+        ensures read { HasTaken self.old (S.left input.old) (S.left input.new)
+            (IsLined self.old self.new (S.left input.new) result) }
         ensures cause { HasReadCause (S.faults input.old) (S.faults input.new) result }
     {
         loop {
             let pending = self.pending();
-            let front = &pending[..pending.len().min(LINE_LIMIT + 1)];
+            let front = &pending[..pending.len().min(LINE_BYTES + 1)];
             if let Some(place) = place_of(b'\n', front) {
                 return Ok(place);
             }
-            if pending.len() > LINE_LIMIT {
+            if pending.len() > LINE_BYTES {
                 return Err(ReadStop::Refused);
             }
             match self.fill(input) {
@@ -195,9 +199,10 @@ impl ScriptReader {
         start: usize,
         count: usize,
     ) -> Result<Text, ReadStop>
-        requires start { start ≤ 2049 }
-        requires count { count ≤ 1048576 }
-        ensures read { HasTaken self.old (S.left input.old) (S.left input.new) (IsText start count self.old self.new (S.left input.new) result) }
+        requires start { start ≤ LINE_BYTES + 1 }
+        requires count { count ≤ FILE_BYTES }
+        ensures read { HasTaken self.old (S.left input.old) (S.left input.new)
+            (IsText start count self.old self.new (S.left input.new) result) }
         ensures cause { HasReadCause (S.faults input.old) (S.faults input.new) result }
     {
         let end = start + count;

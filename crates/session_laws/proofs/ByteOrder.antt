@@ -21,34 +21,10 @@ use Rattle.session_model.specs.Commands.{Command, book_after}
 use Rattle.session_model.specs.Cut.{book_left}
 use Rattle.session_laws.specs.Order.{AreInOrder, IsNotAbove, IsBelow, IsPresent, IsByteOrder}
 use Rattle.session_laws.proofs.Orders.{order_pins}
-
--- the test by which a file takes its place
-abbrev is_below : Book → ℕ → ℕ → Bool
-is_below book j k = is_lt (slice_cmp nat_cmp (name_at book j) (name_at book k))
+use Rattle.session_model.proofs.Ranks.{is_below, placed_here, placed_later, rank_same, rank_once}
 
 names_order : (book : Book) → IsStrictWeakOrder (is_below book)
 names_order book = ranks_by nat_list_cmp_total (name_at book)
-
--- a file stands before the first one, or further on
-placed_here : (book : Book) (k j : ℕ) (js : List ℕ) → is_below book k j ≡ true → k ∷ j ∷ js ≡ rank book k (j ∷ js)
-placed_here book k j js e = sym (ap (λ b. cond b (k ∷ j ∷ js) (j ∷ rank book k js)) e)
-
-placed_later : (book : Book) (k j : ℕ) (js : List ℕ) → is_below book k j ≡ false → j ∷ rank book k js ≡ rank book k (j ∷ js)
-placed_later book k j js e = sym (ap (λ b. cond b (k ∷ j ∷ js) (j ∷ rank book k js)) e)
-
-swapped : (k j : ℕ) (ns js : List ℕ) → SameMembers ns (k ∷ js) → SameMembers (j ∷ ns) (k ∷ j ∷ js)
-swapped k j ns js s = record {
-  left = λ x m. elim m [ inl e ↦ inr (inl e) | inr h ↦ elim (s.left x h) [ inl e ↦ inl e | inr g ↦ inr (inr g) ] ];
-  right = λ x m. elim m [ inl e ↦ inr (s.right x (inl e)) | inr h ↦ elim h [ inl e ↦ inl e | inr g ↦ inr (s.right x (inr g)) ] ];
-}
-
--- the members after one more are it and those before
-rank_same : (book : Book) (k : ℕ) (js : List ℕ) → SameMembers (rank book k js) (k ∷ js)
-rank_same book k [] = same_members (k ∷ [])
-rank_same book k (j ∷ js) = elim (bool_cases (is_below book k j)) [
-  | inl below ↦ subst (λ ns. SameMembers ns (k ∷ j ∷ js)) (placed_here book k j js below) (same_members (k ∷ j ∷ js))
-  | inr above ↦ subst (λ ns. SameMembers ns (k ∷ j ∷ js)) (placed_later book k j js above) (swapped k j (rank book k js) js (rank_same book k js))
-]
 
 -- one more file leaves the names sorted
 rank_sorted : (book : Book) (k : ℕ) (js : List ℕ) → AreInOrder (IsNotAbove book) js → AreInOrder (IsNotAbove book) (rank book k js)
@@ -60,15 +36,6 @@ rank_sorted book k (j ∷ js) o = elim (bool_cases (is_below book k j)) [
       (λ y m. elim m [ inl e ↦ subst (λ z. is_below book z k ≡ false) e back | inr h ↦ (names_order book).chain y j k (o.0 y h) back ], o)
   | inr above ↦ subst (AreInOrder (IsNotAbove book)) (placed_later book k j js above)
       (λ y m. elim ((rank_same book k js).left y m) [ inl e ↦ subst (λ z. is_below book z j ≡ false) e above | inr h ↦ o.0 y h ], rank_sorted book k js o.1)
-]
-
--- a file that wasn't there leaves each once
-rank_once : (book : Book) (k : ℕ) (js : List ℕ) → IsEachOnce js → (IsMember js k → ⊥) → IsEachOnce (rank book k js)
-rank_once book k [] o new = (λ m. m, tt)
-rank_once book k (j ∷ js) o new = elim (bool_cases (is_below book k j)) [
-  | inl below ↦ subst IsEachOnce (placed_here book k j js below) (new, o)
-  | inr above ↦ subst IsEachOnce (placed_later book k j js above)
-      (λ m. elim ((rank_same book k js).left j m) [ inl e ↦ new (inl (sym e)) | inr h ↦ o.0 h ], rank_once book k js o.1 (λ m. new (inr m)))
 ]
 
 -- the numbers are those of the present ones of the first n files, each once and sorted

@@ -8,11 +8,7 @@ use Rattle.linker_base.specs.Members.{IsMember}
 use Rattle.element_store.specs.FileNames.{is_sysml_name}
 use Rattle.session_model.specs.Commands.{Command, line_of, HasForm}
 use Rattle.script_reader.proofs.Headings.{prefix_stands, put_words, put_none, put_spaced, links_none, other_none}
-
--- a test has one of two results
-pub tested : (b : Bool) → (b ≡ true) ⊎ (b ≡ false)
-tested true = inl refl
-tested false = inr refl
+use Rattle.linker_base.proofs.Cases.{bool_cases}
 
 -- two numbers are the same, or they aren't
 pub same_numbers : (m n : ℕ) → (m ≡ n) ⊎ (m ≡ n → ⊥)
@@ -20,7 +16,7 @@ same_numbers m n = elim (cases_lt m n) [ inl less ↦ inr (λ e. omega arith) | 
 
 -- two texts are the same, or they aren't
 pub same_texts : (xs ys : List ℕ) → (xs ≡ ys) ⊎ (xs ≡ ys → ⊥)
-same_texts xs ys = elim (tested (bytes_eq xs ys)) [
+same_texts xs ys = elim (bool_cases (bytes_eq xs ys)) [
   | inl good ↦ inl ((bytes_eq-Decides xs ys).0 good)
   | inr bad ↦ inr (λ e. let good : bytes_eq xs ys ≡ true = (bytes_eq-Decides xs ys).1 e in cc)
 ]
@@ -83,7 +79,7 @@ SaysNothing line = (c : Command) → HasForm c → line_of c ≡ line → ⊥
 
 -- what follows `links ` is a name, or the line is no command's
 links_or_none : (name : List ℕ) → SaysLinks (codes "links " ++ name) ⊎ SaysNothing (codes "links " ++ name)
-links_or_none name = elim (tested (is_sysml_name name)) [ inl good ↦ inl (record { name = name; named = good; stands = refl }) | inr bad ↦ inr (links_none name bad) ]
+links_or_none name = elim (bool_cases (is_sysml_name name)) [ inl good ↦ inl (record { name = name; named = good; stands = refl }) | inr bad ↦ inr (links_none name bad) ]
 
 -- what follows the space says a number, or the line is no command's
 put_count : (words : List ℕ) (p : IsParted 32 words) → is_sysml_name p.front ≡ true → SaysPut (codes "put " ++ words) ⊎ SaysNothing (codes "put " ++ words)
@@ -101,7 +97,7 @@ put_count words p good = elim (count_within p.back 1048576) [
 -- what follows `put ` is a name, a space and a number, or the line is no command's
 put_or_none : (words : List ℕ) → SaysPut (codes "put " ++ words) ⊎ SaysNothing (codes "put " ++ words)
 put_or_none words = elim (part_at 32 words) [
-  | inl p ↦ elim (tested (is_sysml_name p.front)) [
+  | inl p ↦ elim (bool_cases (is_sysml_name p.front)) [
     | inl good ↦ put_count words p good
     | inr bad ↦ inr (put_none words (λ name text form e.
         let named = put_words words p.front p.back name text p.stands p.free form e in
@@ -124,11 +120,11 @@ links_says line (inr none) = inr (inr (inr none))
 
 -- each line says something or nothing
 pub says_of : (line : List ℕ) → Says line
-says_of line = elim (tested (bytes_eq line (codes "end"))) [
+says_of line = elim (bool_cases (bytes_eq line (codes "end"))) [
   | inl e ↦ inr (inr (inl ((bytes_eq-Decides line (codes "end")).0 e)))
-  | inr no_end ↦ elim (tested (bytes_eq (take 6 line) (codes "links "))) [
+  | inr no_end ↦ elim (bool_cases (bytes_eq (take 6 line) (codes "links "))) [
     | inl l ↦ subst Says (prefix_stands line (codes "links ") l) (links_says (codes "links " ++ drop 6 line) (links_or_none (drop 6 line)))
-    | inr no_links ↦ elim (tested (bytes_eq (take 4 line) (codes "put "))) [
+    | inr no_links ↦ elim (bool_cases (bytes_eq (take 4 line) (codes "put "))) [
       | inl p ↦ subst Says (prefix_stands line (codes "put ") p) (put_says (codes "put " ++ drop 4 line) (put_or_none (drop 4 line)))
       | inr no_put ↦ inr (inr (inr (other_none line no_end no_links no_put)))
     ]

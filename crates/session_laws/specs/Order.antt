@@ -35,6 +35,8 @@ pub record IsByteOrder (book : Book) (numbers : List ℕ) : Type 0 where
 abbrev pub BeginsBefore : Reference → Reference → Type 0
 BeginsBefore r s = r.place < s.place
 
--- as printed, the first place of a text stands before the second one: on an earlier line, or in an earlier column of the same line
+-- as printed, the first place of a text stands before the second one: on an earlier line, or in an earlier column of
+-- the same line
 abbrev pub IsPrintedBefore : List ℕ → ℕ → ℕ → Type 0
-IsPrintedBefore text p q = (line_at text p < line_at text q) ⊎ ((line_at text p ≡ line_at text q) × (column_at text p < column_at text q))
+IsPrintedBefore text p q = (line_at text p < line_at text q)
+    ⊎ ((line_at text p ≡ line_at text q) × (column_at text p < column_at text q))

@@ -17,15 +17,19 @@ ghost use Rattle.session_laws.specs.Order.{AreInOrder, IsBelow, IsByteOrder, Beg
 /// A law: each input has a cut. With the law that it has at most one, its commands, its answers and its stop are
 /// fixed by its bytes.
 pub fn cut_exists()
-    ensures { (ended : Bool) (bytes : List ℕ) → (commands : List Command) × (rest : List ℕ) × IsCut ended commands bytes rest }
+    ensures { (ended : Bool) (bytes : List ℕ) → (commands : List Command) × (rest : List ℕ)
+        × IsCut ended commands bytes rest }
 {}
 
 /// A law: `ranked` lists the present files of a book in byte order of their names. Where each name stands once in the
 /// book, as in all books that commands leave, the names rise, and no other list is in byte order.
 pub fn files_in_byte_order()
     ensures order { (book : Book) → IsByteOrder book (ranked book) }
-    ensures rising { (book : Book) (numbers : List ℕ) → IsEachOnce (keys_of book) → IsByteOrder book numbers → AreInOrder (IsBelow book) numbers }
-    ensures one { (book : Book) (numbers others : List ℕ) → IsEachOnce (keys_of book) → IsByteOrder book numbers → IsByteOrder book others → numbers ≡ others }
+    ensures rising { (book : Book) (numbers : List ℕ) → IsEachOnce (keys_of book)
+        → IsByteOrder book numbers
+        → AreInOrder (IsBelow book) numbers }
+    ensures one { (book : Book) (numbers others : List ℕ) → IsEachOnce (keys_of book)
+        → IsByteOrder book numbers → IsByteOrder book others → numbers ≡ others }
     ensures named { (commands : List Command) → IsEachOnce (keys_of (book_left [] commands)) }
 {}
 
@@ -33,7 +37,8 @@ pub fn files_in_byte_order()
 /// made of them in this order.
 pub fn references_in_rising_place()
     ensures text { (text : List ℕ) → AreInOrder BeginsBefore (model_of_text text).references }
-    ensures file { (book : Book) (f : FileNo) (s : Source) → (files_of book).file f ≡ Some s → AreInOrder BeginsBefore s.model.references }
+    ensures file { (book : Book) (f : FileNo) (s : Source) → (files_of book).file f ≡ Some s
+        → AreInOrder BeginsBefore s.model.references }
 {}
 
 /// A law: a later place of a text is printed with a later line, or with a later column of the same line. With the law on

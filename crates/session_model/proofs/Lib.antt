@@ -1,3 +1,4 @@
 pub mod Lines
 pub mod CutLaws
 pub mod Unfinished
+pub mod Ranks

@@ -8,12 +8,7 @@ use Rattle.element_store.specs.FileNames.{is_sysml_name, is_name_byte, has_name_
 use Rattle.linker_base.specs.Members.{IsMember}
 use Rattle.linker_base.proofs.MemberLaws.{member_cases}
 use Rattle.session_model.specs.Commands.{Command, line_of, body_of, spelling_of, HasForm}
-
--- both sides of a true `and` are true
-pub both_true : (a b : Bool) → (a && b) ≡ true → (a ≡ true) × (b ≡ true)
-both_true true true e = (refl, refl)
-both_true true false e = (refl, e)
-both_true false b e = (e, cc)
+use Rattle.linker_base.proofs.Cases.{both_true}
 
 -- a byte that fails a test is in no list whose bytes all pass it
 not_among : (test : ℕ → Bool) (xs : List ℕ) (b : ℕ) → list_all test xs ≡ true → test b ≡ false → IsMember xs b → ⊥

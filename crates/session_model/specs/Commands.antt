@@ -1,6 +1,7 @@
 -- The commands of a script and their spellings.
 use Rattle.std.specs.Prelude.{◌≡◌, ℕ, ◌≤◌, true, List, [], ◌++◌, length, codes}
 use Rattle.std.specs.Fmt.{decimal}
+use Rattle.linker_base.specs.declared.limits.TheConstants.{FILE_BYTES}
 use Rattle.element_store.specs.FileNames.{is_sysml_name}
 use Rattle.session_model.specs.Book.{Book, Edited, edited, put_in}
 
@@ -28,7 +29,7 @@ spelling_of c = line_of c ++ codes "\n" ++ body_of c
 
 -- the command has a form: its name is a NAME, its text within the limit of a file
 abbrev pub HasForm : Command → Type 0
-HasForm (Command.Put name text) = (is_sysml_name name ≡ true) × (length text ≤ 1048576)
+HasForm (Command.Put name text) = (is_sysml_name name ≡ true) × (length text ≤ FILE_BYTES)
 HasForm (Command.Links name) = is_sysml_name name ≡ true
 HasForm Command.End = Unit {0}
 

@@ -1,29 +1,33 @@
 -- The cut of an input into commands, and the stop at its end.
-use Rattle.std.specs.Prelude.{◌≡◌, ℕ, ◌+◌, ◌^◌, ◌≤◌, Bool, true, false, List, [], ◌∷◌, ◌++◌, length, codes, ◌⊎◌}
+use Rattle.std.specs.Prelude.{◌≡◌, ℕ, ◌+◌, ◌≤◌, Bool, true, false, List, [], ◌∷◌, ◌++◌, length, codes, ◌⊎◌}
+use Rattle.linker_base.specs.declared.limits.TheConstants.{INPUT_BYTES}
 use Rattle.session_model.specs.Book.{Book}
 use Rattle.session_model.specs.Commands.{Command, spelling_of, book_after, IsAccepted}
 
 -- The command's spelling stands at the front of the bytes, and the rest follows. The LF of `end` may be missing where
 -- the bytes end and `ended` says that nothing will follow.
 abbrev pub Begins : Bool → Command → List ℕ → List ℕ → Type 0
-Begins ended c bytes rest = (bytes ≡ spelling_of c ++ rest) ⊎ ((ended ≡ true) × (c ≡ Command.End) × (bytes ≡ codes "end") × (rest ≡ []))
+Begins ended c bytes rest = (bytes ≡ spelling_of c ++ rest)
+    ⊎ ((ended ≡ true) × (c ≡ Command.End) × (bytes ≡ codes "end") × (rest ≡ []))
 
 -- The commands' spellings stand one after the other at the front of the bytes, each command accepted over the book that
 -- those before it leave, only the last one maybe `end`, and the rest follows.
 abbrev pub Reads : Bool → Book → List Command → List ℕ → List ℕ → Type 0
 Reads ended book [] bytes rest = bytes ≡ rest
 Reads ended book (c ∷ cs) bytes rest =
-    (more : List ℕ) × Begins ended c bytes more × IsAccepted book c × (c ≡ Command.End → cs ≡ []) × Reads ended (book_after book c) cs more rest
+    (more : List ℕ) × Begins ended c bytes more × IsAccepted book c × (c ≡ Command.End → cs ≡ [])
+    × Reads ended (book_after book c) cs more rest
 
 -- the commands read lie within the first 2^32 bytes
 pub record IsReading (ended : Bool) (commands : List Command) (bytes rest : List ℕ) : Type 0 where
   pub reads : Reads ended [] commands bytes rest
-  pub within : length bytes ≤ length rest + 2 ^ 32
+  pub within : length bytes ≤ length rest + INPUT_BYTES
 
 -- the longest list of commands that can be read so
 pub record IsCut (ended : Bool) (commands : List Command) (bytes rest : List ℕ) : Type 0 where
   pub reading : IsReading ended commands bytes rest
-  pub longest : (others : List Command) (left : List ℕ) → IsReading ended others bytes left → length others ≤ length commands
+  pub longest : (others : List Command) (left : List ℕ) → IsReading ended others bytes left
+      → length others ≤ length commands
 
 -- the last command is `end`
 abbrev pub EndsWithEnd : List Command → Type 0

@@ -1,5 +1,6 @@
 -- Where what comes next is refused, whatever follows: why a reader stops before the end of the input.
-use Rattle.std.specs.Prelude.{◌≡◌, ℕ, List, ◌∷◌, ◌++◌, length, ◌⊎◌}
+use Rattle.std.specs.Prelude.{◌≡◌, ℕ, ◌+◌, List, ◌∷◌, ◌++◌, length, ◌⊎◌}
+use Rattle.linker_base.specs.declared.limits.TheConstants.{LINE_BYTES}
 use Rattle.linker_base.specs.Members.{IsMember}
 use Rattle.session_model.specs.Book.{Book}
 use Rattle.session_model.specs.Commands.{Command, line_of, spelling_of, HasForm, HasRoom}
@@ -8,7 +9,7 @@ use Rattle.session_model.specs.Commands.{Command, line_of, spelling_of, HasForm,
 pub record IsEndless (bytes : List ℕ) : Type 0 where
   pub front : List ℕ
   pub back : List ℕ
-  pub size : length front ≡ 2049
+  pub size : length front ≡ LINE_BYTES + 1
   pub free : IsMember front 10 → ⊥
   pub stands : bytes ≡ front ++ back
 

@@ -24,16 +24,13 @@ use Rattle.project_core.proofs.FileLaws.{file_there}
 use Rattle.project_core.proofs.QueryLaws.{member_there}
 use Rattle.project_core.proofs.NameLaws.{same_name}
 use Rattle.session_replies.specs.Rows.{printed_place, row_text, rows_answer, IsLiveRow}
+use Rattle.linker_base.proofs.Lists.{get_seam}
 
 -- each of live rows is live
 pub live_at : (book : Book) (rows : List LinkRow) (i : ℕ) (d : LinkRow) → i < length rows → AreLive book rows → IsLiveRow book (get_or rows i d)
 live_at book [] i d h live = absurd (omega arith)
 live_at book (row ∷ rows) zero d h live = (live.0, live.1)
 live_at book (row ∷ rows) (suc i) d h live = live_at book rows i d (omega arith) live.2
-
-get_seam : (front rs : List Reference) (r : Reference) → slice_get (front ++ r ∷ rs) (length front) ≡ Some r
-get_seam [] rs r = refl
-get_seam (q ∷ front) rs r = get_seam front rs r
 
 -- rows of references are printed as the answers say
 rows_printed : (files : Files) (f : FileNo) (s : Source) (front rs : List Reference) → references_of files f ≡ front ++ rs

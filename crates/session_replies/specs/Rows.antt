@@ -23,11 +23,13 @@ printed_place place = decimal place.line ++ codes ":" ++ decimal place.column
 
 -- a row as a line
 abbrev pub row_text : Files → LinkRow → List ℕ
-row_text files row = printed_place row.place ++ codes " " ++ role_text row.role ++ codes " " ++ reference_text files row.reference ++ codes " -> " ++ outcome_text files row.outcome ++ codes "\n"
+row_text files row = printed_place row.place ++ codes " " ++ role_text row.role ++ codes " "
+    ++ reference_text files row.reference ++ codes " -> " ++ outcome_text files row.outcome ++ codes "\n"
 
 -- the answer of `links` where there are these rows
 abbrev pub rows_answer : Files → List ℕ → List LinkRow → List ℕ
-rows_answer files name rows = flat_map (row_text files) rows ++ codes "links " ++ name ++ codes " " ++ decimal (length rows) ++ codes "\n"
+rows_answer files name rows =
+    flat_map (row_text files) rows ++ codes "links " ++ name ++ codes " " ++ decimal (length rows) ++ codes "\n"
 
 -- what a row names stands in present files
 abbrev pub IsLiveRow : Book → LinkRow → Type 0
@@ -44,10 +46,13 @@ fault_text NoMemory = codes "NoMemory"
 
 -- what a put found, as its answer prints it after the name
 abbrev pub report_text : FileReport → List ℕ
-report_text (In elements references) = codes " elements " ++ decimal elements ++ codes " references " ++ decimal references
+report_text (In elements references) =
+    codes " elements " ++ decimal elements ++ codes " references " ++ decimal references
 report_text (Refused fault place) = codes " refused " ++ printed_place place ++ codes " " ++ fault_text fault
 
 -- what a put's answer says: its bytes, where the book had room
 abbrev pub PutAnswers : Book → Book → List ℕ → List ℕ → PutReply → Type 0
-PutAnswers before after name text (Answered bytes) = (edited before name text ≡ Edited.Changed after) × (bytes.items ≡ answer_of before (Command.Put name text))
-PutAnswers before after name text NoRoom = ((number : ℕ) × (edited before name text ≡ Edited.Refused number)) × (after ≡ before)
+PutAnswers before after name text (Answered bytes) = (edited before name text ≡ Edited.Changed after)
+    × (bytes.items ≡ answer_of before (Command.Put name text))
+PutAnswers before after name text NoRoom = ((number : ℕ) × (edited before name text ≡ Edited.Refused number))
+    × (after ≡ before)

@@ -15,7 +15,8 @@ use std::alloc::Global;
 /// Writes rows of `links`, each as a line.
 fn write_rows(answer: &mut Vec<u8>, project: &Project, rows: &[LinkRow]) -> Result<(), NoMemory>
     requires { AreLive project.now rows.now }
-    ensures { OnOk result (answer.new.items ≡ answer.old.items ++ flat_map (row_text (files_of project.now)) rows.now) }
+    ensures { OnOk result (answer.new.items ≡ answer.old.items
+        ++ flat_map (row_text (files_of project.now)) rows.now) }
 {
     for row in rows {
         write_row(answer, project, row)?;
@@ -31,7 +32,8 @@ fn rows_reply(
     rows: &[LinkRow],
 ) -> Result<Vec<u8>, NoMemory>
     requires { AreLive project.now rows.now }
-    ensures { IfOk result (λ bytes. bytes.items ≡ rows_answer (files_of project.now) name.now rows.now) }
+    ensures { IfOk result (λ bytes. bytes.items
+        ≡ rows_answer (files_of project.now) name.now rows.now) }
 {
     let mut answer = Vec::new(alloc);
     write_rows(&mut answer, project, rows)?;
@@ -45,7 +47,8 @@ fn rows_reply(
 
 /// The answer of `links` where the book has no text under the name.
 fn no_file_reply(alloc: Global, name: &FileName) -> Result<Vec<u8>, NoMemory>
-    ensures { IfOk result (λ bytes. bytes.items ≡ codes "links " ++ name.now ++ codes " no file\n") }
+    ensures { IfOk result (λ bytes. bytes.items ≡ codes "links " ++ name.now
+        ++ codes " no file\n") }
 {
     let mut answer = Vec::new(alloc);
     write(&mut answer, b"links ")?;

@@ -54,7 +54,9 @@ pub fn put_reply<L: Ledger>(
 /// The answer of a put of the text that stands under the name.
 fn put_answer(alloc: Global, project: &Project, name: &FileName) -> Result<Vec<u8>, NoMemory>
     requires { IsSome (text_in project.now name.now) }
-    ensures { IfOk result (λ bytes. (text : List ℕ) → text_in project.now name.now ≡ Some text → bytes.items ≡ codes "put " ++ name.now ++ put_result text (package_of text) ++ codes "\n") }
+    ensures { IfOk result (λ bytes. (text : List ℕ) → text_in project.now name.now ≡ Some text
+        → bytes.items ≡ codes "put " ++ name.now ++ put_result text (package_of text)
+        ++ codes "\n") }
 {
     let Ok(report) = project.file(name) else {
         unreachable!()

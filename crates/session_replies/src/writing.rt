@@ -52,7 +52,9 @@ fn write_element(
     element: ElementNo,
 ) -> Result<(), NoMemory>
     requires { IsLiveElement project.now element }
-    ensures { OnOk result (answer.new.items ≡ answer.old.items ++ (file_text (files_of project.now) element.file ++ codes " " ++ label_of (files_of project.now) element)) }
+    ensures { OnOk result (answer.new.items ≡ answer.old.items
+        ++ (file_text (files_of project.now) element.file ++ codes " "
+        ++ label_of (files_of project.now) element)) }
 {
     let file = taken(project.file_text(element.file))?;
     let label = taken(project.label(element))?;
@@ -64,7 +66,8 @@ fn write_element(
 /// Writes the place of a member as `FILE:LINE:COLUMN`.
 fn write_member(answer: &mut Vec<u8>, project: &Project, member: MemberNo) -> Result<(), NoMemory>
     requires { IsLiveMember project.now member }
-    ensures { OnOk result (answer.new.items ≡ answer.old.items ++ member_spot (files_of project.now) member) }
+    ensures { OnOk result (answer.new.items ≡ answer.old.items
+        ++ member_spot (files_of project.now) member) }
 {
     let file = taken(project.file_text(member.file))?;
     let Ok(place) = project.member_place(member) else {
@@ -79,7 +82,8 @@ fn write_member(answer: &mut Vec<u8>, project: &Project, member: MemberNo) -> Re
 /// Writes an outcome.
 fn write_outcome(answer: &mut Vec<u8>, project: &Project, outcome: &Outcome) -> Result<(), NoMemory>
     requires { IsLiveOutcome project.now outcome.now }
-    ensures { OnOk result (answer.new.items ≡ answer.old.items ++ outcome_text (files_of project.now) outcome.now) }
+    ensures { OnOk result (answer.new.items ≡ answer.old.items
+        ++ outcome_text (files_of project.now) outcome.now) }
 {
     match outcome {
         Outcome::Linked { element, .. } => {
@@ -127,7 +131,8 @@ fn role_word(role: Role) -> &'static [u8]
 /// Writes a row of `links` as a line.
 pub fn write_row(answer: &mut Vec<u8>, project: &Project, row: &LinkRow) -> Result<(), NoMemory>
     requires { IsLiveRow project.now row.now }
-    ensures { OnOk result (answer.new.items ≡ answer.old.items ++ row_text (files_of project.now) row.now) }
+    ensures { OnOk result (answer.new.items ≡ answer.old.items
+        ++ row_text (files_of project.now) row.now) }
 {
     let text = taken(project.text_of(row.reference))?;
     write_place(answer, row.place)?;

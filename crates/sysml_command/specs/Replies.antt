@@ -9,6 +9,7 @@ use Rattle.sysml_command.specs.declared.reply.Response.TheVariants.{Answered, No
 
 -- the command's answer, and the book after it; or its edit is refused; or memory was wanting
 abbrev pub IsReply : Book → Book → Command → Result Response NoMemory → Type 0
-IsReply book after c (Ok (Answered bytes)) = HasRoom book c × (vec_items bytes ≡ answer_of book c) × (after ≡ book_after book c)
+IsReply book after c (Ok (Answered bytes)) =
+    HasRoom book c × (vec_items bytes ≡ answer_of book c) × (after ≡ book_after book c)
 IsReply book after c (Ok NoRoom) = (HasRoom book c → ⊥) × (after ≡ book)
 IsReply book after c (Err e) = Unit {0}

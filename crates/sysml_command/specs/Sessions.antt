@@ -1,5 +1,6 @@
 -- A session on its way, and what it did when it ended.
 use Rattle.std.specs.Prelude.{◌≡◌, ℕ, ◌+◌, ◌^◌, ◌<◌, ◌≤◌, true, false, List, [], ◌++◌, length, take, Option, Some, None}
+use Rattle.linker_base.specs.declared.limits.TheConstants.{INPUT_BYTES}
 use Rattle.linker_base.specs.Counts.{Rose}
 use Rattle.outside_core.specs.Streams.{TakenSoFar}
 use Rattle.session_model.specs.Book.{Book}
@@ -30,8 +31,8 @@ abbrev pub GavePrefix : Option (List ℕ) → Option (List ℕ) → List ℕ →
 GavePrefix None now bytes = now ≡ None
 GavePrefix (Some before) now bytes = (n : ℕ) × (now ≡ Some (before ++ take n bytes))
 
--- A session on its way: these commands are read and answered; the bytes taken are their spellings and what is pending; the
--- book is the one that they leave.
+-- A session on its way: these commands are read and answered; the bytes taken are their spellings and what is
+-- pending; the book is the one that they leave.
 pub record Progress (left now given later : Option (List ℕ)) (book : Book) (reader : Window) : Type 0 where
   pub commands : List Command
   pub taken : List ℕ
@@ -41,7 +42,7 @@ pub record Progress (left now given later : Option (List ℕ)) (book : Book) (re
   pub from : TakenSoFar left now taken
   pub answered : Gave given later (answers_of [] commands)
   pub place : reader.used ≡ length (spellings_of commands)
-  pub within : reader.used + length reader.pending ≤ 2 ^ 32
+  pub within : reader.used + length reader.pending ≤ INPUT_BYTES
 
 -- the commands of the input are these, and so many of its bytes follow them
 pub record HasCut (bytes : List ℕ) : Type 0 where
@@ -66,26 +67,32 @@ pub record IsCutOff (bytes : List ℕ) (now given later : Option (List ℕ)) : T
 pub record IsFirstAnswers (bytes : List ℕ) (given later : Option (List ℕ)) : Type 0 where
   pub commands : List Command
   pub answered : Gave given later (answers_of [] commands)
-  pub first : (cs : List Command) (rest : List ℕ) → IsCut true cs bytes rest → (more : List Command) × (cs ≡ commands ++ more)
+  pub first : (cs : List Command) (rest : List ℕ) → IsCut true cs bytes rest → (more : List Command)
+      × (cs ≡ commands ++ more)
 
 -- What a session gave, by its ending, over an input that told these bytes.
 abbrev pub Served : List ℕ → Option (List ℕ) → Option (List ℕ) → Option (List ℕ) → Ending → Type 0
-Served bytes now given later Done = (c : HasCut bytes) × EndsWithEnd c.commands × Gave given later (answers_of [] c.commands)
+Served bytes now given later Done = (c : HasCut bytes) × EndsWithEnd c.commands
+    × Gave given later (answers_of [] c.commands)
 Served bytes now given later (Script place) =
-    (c : HasCut bytes) × (EndsWithEnd c.commands → ⊥) × Gave given later (answers_of [] c.commands) × (place ≡ length (spellings_of c.commands))
+    (c : HasCut bytes) × (EndsWithEnd c.commands → ⊥) × Gave given later (answers_of [] c.commands)
+    × (place ≡ length (spellings_of c.commands))
 Served bytes now given later ReadFault = IsCutOff bytes now given later
-Served bytes now given later WriteFault = (cs : List Command) (rest : List ℕ) → IsCut true cs bytes rest → GavePrefix given later (answers_of [] cs)
+Served bytes now given later WriteFault = (cs : List Command) (rest : List ℕ) → IsCut true cs bytes rest
+    → GavePrefix given later (answers_of [] cs)
 Served bytes now given later NoMemory = IsFirstAnswers bytes given later
 Served bytes now given later Usage = ⊥
 
 -- a turn of a session: it goes on, or it ended
-abbrev pub IsTurn : Option (List ℕ) → Option (List ℕ) → Option (List ℕ) → Option (List ℕ) → Book → Window → Option Ending → Type 0
+abbrev pub IsTurn : Option (List ℕ) → Option (List ℕ) → Option (List ℕ) → Option (List ℕ) → Book → Window
+    → Option Ending → Type 0
 IsTurn left now given later book reader None = Progress left now given later book reader
-IsTurn left now given later book reader (Some ending) = (bytes : List ℕ) → left ≡ Some bytes → Served bytes now given later ending
+IsTurn left now given later book reader (Some ending) = (bytes : List ℕ) → left ≡ Some bytes
+    → Served bytes now given later ending
 
 -- a turn that goes on used up some bytes, within the limit of an input
 abbrev pub IsForward : Window → Window → Option Ending → Type 0
-IsForward before after None = (before.used < after.used) × (after.used ≤ 2 ^ 32)
+IsForward before after None = (before.used < after.used) × (after.used ≤ INPUT_BYTES)
 IsForward before after (Some ending) = Unit {0}
 
 -- the input's count of faults rose with a read fault, and with no other ending

@@ -22,7 +22,8 @@ fn are_session(words: &[String]) -> bool
 /// Gives a line, and then the status is this one. A failure to write it is a write fault.
 fn give_line<E: Sink>(errors: &mut E, line: &[u8], status: Status) -> Status
     requires { line.now ≡ [] → ⊥ }
-    ensures { IsGiven (E.faults errors.old) (E.faults errors.new) (E.given errors.old) (E.given errors.new) line.now status result }
+    ensures { IsGiven (E.faults errors.old) (E.faults errors.new) (E.given errors.old)
+        (E.given errors.new) line.now status result }
 {
     match give_all(errors, line) {
         Ok(()) => status,
@@ -32,7 +33,8 @@ fn give_line<E: Sink>(errors: &mut E, line: &[u8], status: Status) -> Status
 
 /// Gives `script fault at`, the place and LF.
 fn give_place<E: Sink>(errors: &mut E, place: u64) -> Status
-    ensures { IsReported (E.faults errors.old) (E.faults errors.new) (E.given errors.old) (E.given errors.new) (Ending.Script place) result }
+    ensures { IsReported (E.faults errors.old) (E.faults errors.new) (E.given errors.old)
+        (E.given errors.new) (Ending.Script place) result }
 {
     let mut buffer = Buffer::new();
     let digits = buffer.format(place).as_bytes();
@@ -50,7 +52,8 @@ fn give_place<E: Sink>(errors: &mut E, place: u64) -> Status
 
 /// Writes the line of an ending. A failure to write it is a write fault.
 fn report<E: Sink>(errors: &mut E, ending: Ending) -> Status
-    ensures { IsReported (E.faults errors.old) (E.faults errors.new) (E.given errors.old) (E.given errors.new) ending result }
+    ensures { IsReported (E.faults errors.old) (E.faults errors.new) (E.given errors.old)
+        (E.given errors.new) ending result }
 {
     match ending {
         Ending::Done => Status::Done,
@@ -73,7 +76,8 @@ fn serve_script<S: Source, K: Sink, L: Ledger>(
     output: &mut K,
     steps: &mut Steps<L>,
 ) -> Ending
-    ensures served { (bytes : List ℕ) → S.left input.old ≡ Some bytes → Served bytes (S.left input.new) (K.given output.old) (K.given output.new) result }
+    ensures served { (bytes : List ℕ) → S.left input.old ≡ Some bytes
+        → Served bytes (S.left input.new) (K.given output.old) (K.given output.new) result }
     ensures input { HasInputCause (S.faults input.old) (S.faults input.new) (Some result) }
     ensures output { HasOutputCause (K.faults output.old) (K.faults output.new) (Some result) }
     ensures other { result ≡ Ending.Usage → ⊥ }
@@ -98,14 +102,22 @@ pub fn run<F: Shelf, S: Source, K: Sink, E: Sink, L: Ledger>(
 ) -> Status
     // Where no count of faults rises: output, errors and status are those of the words and of the commands of the
     // input, or memory was wanting.
-    ensures quiet { (bytes rest : List ℕ) (commands : List Command) → S.left input.old ≡ Some bytes → IsCut true commands bytes rest
-        → (Rose (S.faults input.old) (S.faults input.new) → ⊥) → (Rose (K.faults output.old) (K.faults output.new) → ⊥) → (Rose (E.faults errors.old) (E.faults errors.new) → ⊥)
-        → HasOutcome (K.given output.old) (K.given output.new) (E.given errors.old) (E.given errors.new) (run_of (map string_bytes words.now) commands) result }
+    ensures quiet { (bytes rest : List ℕ) (commands : List Command) → S.left input.old ≡ Some bytes
+        → IsCut true commands bytes rest
+        → (Rose (S.faults input.old) (S.faults input.new) → ⊥)
+        → (Rose (K.faults output.old) (K.faults output.new) → ⊥)
+        → (Rose (E.faults errors.old) (E.faults errors.new) → ⊥)
+        → HasOutcome (K.given output.old) (K.given output.new) (E.given errors.old)
+        (E.given errors.new) (run_of (map string_bytes words.now) commands) result }
     // By the status, also after a fault.
-    ensures ran { (bytes : List ℕ) → S.left input.old ≡ Some bytes → Ran (map string_bytes words.now) bytes (S.left input.new) (K.given output.old) (K.given output.new) (E.given errors.old) (E.given errors.new) result }
-    ensures causes { HaveCauses (S.faults input.old) (S.faults input.new) (K.faults output.old) (K.faults output.new) (E.faults errors.old) (E.faults errors.new) result }
+    ensures ran { (bytes : List ℕ) → S.left input.old ≡ Some bytes
+        → Ran (map string_bytes words.now) bytes (S.left input.new) (K.given output.old)
+        (K.given output.new) (E.given errors.old) (E.given errors.new) result }
+    ensures causes { HaveCauses (S.faults input.old) (S.faults input.new) (K.faults output.old)
+        (K.faults output.new) (E.faults errors.old) (E.faults errors.new) result }
     ensures usage { result ≡ Status.Usage → is_session (map string_bytes words.now) ≡ false }
-    ensures refused { is_session (map string_bytes words.now) ≡ false → (input.new ≡ input.old) × ((result ≡ Status.Usage) ⊎ (result ≡ Status.WriteFault)) }
+    ensures refused { is_session (map string_bytes words.now) ≡ false → (input.new ≡ input.old)
+        × ((result ≡ Status.Usage) ⊎ (result ≡ Status.WriteFault)) }
     ensures shelf { shelf.new ≡ shelf.old }
 {
     let _ = shelf;

@@ -45,7 +45,8 @@ pub(crate) struct Session {
 impl Session {
     /// A session that has read nothing, over no files.
     pub(crate) fn open<L: Ledger>(alloc: Global, steps: &mut Steps<L>) -> Result<Session, NoMemory>
-        ensures { IfOk result (λ session. session ≡ record { reader = record { used = 0; pending = [] }; project = [] }) }
+        ensures { IfOk result (λ session. session
+            ≡ record { reader = record { used = 0; pending = [] }; project = [] }) }
     {
         Ok(Session {
             reader: ScriptReader::new(alloc),
@@ -61,7 +62,11 @@ impl Session {
         output: &mut K,
         steps: &mut Steps<L>,
     ) -> Option<Ending>
-        ensures turned { (left given : Option (List ℕ)) → Progress left (S.left input.old) given (K.given output.old) self.old.project self.old.reader → IsTurn left (S.left input.new) given (K.given output.new) self.new.project self.new.reader result }
+        ensures turned { (left given : Option (List ℕ))
+            → Progress left (S.left input.old) given
+            (K.given output.old) self.old.project self.old.reader
+            → IsTurn left (S.left input.new) given
+            (K.given output.new) self.new.project self.new.reader result }
         ensures forward { IsForward self.old.reader self.new.reader result }
         ensures input { HasInputCause (S.faults input.old) (S.faults input.new) result }
         ensures output { HasOutputCause (K.faults output.old) (K.faults output.new) result }
@@ -92,7 +97,8 @@ impl Session {
         steps: &mut Steps<L>,
     ) -> Ending
         requires { self.old ≡ record { reader = record { used = 0; pending = [] }; project = [] } }
-        ensures served { (bytes : List ℕ) → S.left input.old ≡ Some bytes → Served bytes (S.left input.new) (K.given output.old) (K.given output.new) result }
+        ensures served { (bytes : List ℕ) → S.left input.old ≡ Some bytes
+            → Served bytes (S.left input.new) (K.given output.old) (K.given output.new) result }
         ensures input { HasInputCause (S.faults input.old) (S.faults input.new) (Some result) }
         ensures output { HasOutputCause (K.faults output.old) (K.faults output.new) (Some result) }
         ensures other { result ≡ Ending.Usage → ⊥ }

@@ -2,8 +2,9 @@
 use Rattle.std.proofs.Common.{◌≡◌, List, ℕ, ◌≤◌, ◌++◌, ◌+◌, length, take, Some, None, sym, ◌∙◌, subst, arith}
 use Rattle.first_reader.specs.Pieces.{piece_at}
 use Rattle.first_reader.specs.Lexing.{tokens_of_piece}
-use Rattle.first_reader.proofs.LexLaws.{IsLexing, rest_is, lexing_more, lexing_refused, lexing_ended}
+use Rattle.first_reader.proofs.LexLaws.{IsLexing, lexing_more, lexing_refused, lexing_ended}
 use Rattle.first_reader.proofs.lexer.lex.Goals as goal
+use Rattle.linker_base.proofs.Lists.{rest_is}
 
 pub returns-in_default-clause-value : goal.returns-in_default-clause-value
 returns-in_default-clause-value c =

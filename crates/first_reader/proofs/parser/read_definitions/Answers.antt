@@ -2,7 +2,7 @@
 use Rattle.std.proofs.Common.{◌≡◌, ◌≤◌, ◌+◌, ◌++◌, ◌∷◌, [], List, length, map, sym, ◌∙◌, ap, subst, true, false, arith}
 use Rattle.first_reader.specs.Grammar.{kind_of_token, definition_length, is_end, definition_by}
 use Rattle.first_reader.specs.declared.lexer.Token.{Token}
-use Rattle.first_reader.proofs.LexLaws.{rest_is}
+use Rattle.linker_base.proofs.Lists.{rest_is}
 use Rattle.first_reader.proofs.ReadLaws.{IsReading, reading_begun, reading_more, reading_ended, reading_refused}
 use Rattle.first_reader.proofs.parser.read_definitions.Goals as goal
 

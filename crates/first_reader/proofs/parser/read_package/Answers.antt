@@ -4,7 +4,7 @@ use Rattle.std.proofs.lemmas.List.Elements.{All-drop}
 use Rattle.first_reader.specs.Lexing.{IsWithin}
 use Rattle.first_reader.specs.Grammar.{definitions_of}
 use Rattle.first_reader.specs.declared.lexer.Token.{Token}
-use Rattle.first_reader.proofs.LexLaws.{rest_is}
+use Rattle.linker_base.proofs.Lists.{rest_is}
 use Rattle.first_reader.proofs.parser.read_package.Goals as goal
 
 pub returns-then-not-opens-clause-value : goal.returns-then-not-opens-clause-value

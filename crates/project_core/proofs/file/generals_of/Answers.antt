@@ -1,5 +1,5 @@
 -- One definition more.
-use Rattle.std.proofs.Common.{◌++◌, ◌∷◌, [], List, ℕ, sym, ◌∙◌, ap}
+use Rattle.std.proofs.Common.{◌++◌, ◌∷◌, [], sym, ◌∙◌, ap}
 use Rattle.std.specs.Option.{option_map_or}
 use Rattle.project_core.proofs.NameLaws.{generals_at}
 use Rattle.project_core.proofs.file.generals_of.Goals as goal

@@ -1,6 +1,6 @@
 -- One definition more.
-use Rattle.std.proofs.Common.{◌≡◌, List, ℕ, sym, subst}
-use Rattle.project_core.specs.Names.{IsTable, definition_notes}
+use Rattle.std.proofs.Common.{sym, subst}
+use Rattle.project_core.specs.Names.{IsTable}
 use Rattle.project_core.proofs.NameLaws.{notes_at}
 use Rattle.project_core.proofs.file.table_of.Goals as goal
 

@@ -1,9 +1,5 @@
 -- One reference more.
-use Rattle.std.proofs.Common.{◌≡◌, ◌<◌, ◌+◌, ◌++◌, ◌∷◌, [], List, ℕ, take, length, get_or, refl, sym, ◌∙◌, ap, subst, arith, rules}
-use Rattle.std.specs.Prelude.{slice_index}
-use Rattle.std.proofs.lemmas.List.{take_more}
-use Rattle.project_core.specs.Names.{generals_from}
-use Rattle.project_core.specs.Lookup.{table_rows}
+use Rattle.std.proofs.Common.{◌<◌, List, ℕ, length, ◌∙◌, subst}
 use Rattle.project_core.proofs.LinkLaws.{table_rows_next}
 use Rattle.project_core.proofs.links.rows_of.Goals as goal
 

@@ -1,5 +1,5 @@
 -- The label of a definition.
-use Rattle.std.proofs.Common.{◌≡◌, ◌++◌, List, ℕ, codes, sym, ◌∙◌, ap, subst}
+use Rattle.std.proofs.Common.{◌≡◌, ◌++◌, List, ℕ, codes, ◌∙◌, ap, subst}
 use Rattle.std.specs.Result.{IfOk}
 use Rattle.project_core.proofs.QueryLaws.{element_below, element_named}
 use Rattle.project_core.proofs.queries.element_label.Goals as goal

@@ -1,5 +1,4 @@
 -- The place of a definition as a member.
-use Rattle.std.proofs.Common.{arith}
 use Rattle.project_core.proofs.QueryLaws.{member_below, member_begin}
 use Rattle.project_core.proofs.queries.member_start.Goals as goal
 

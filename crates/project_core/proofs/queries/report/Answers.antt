@@ -1,5 +1,5 @@
 -- The numbers of elements and references.
-use Rattle.std.proofs.Common.{◌≡◌, ◌+◌, ◌-◌, length, sym, ◌∙◌, ap, Some}
+use Rattle.std.proofs.Common.{◌+◌, ◌-◌, length, ◌∙◌, ap}
 use Rattle.first_reader.specs.PackageModel.{model_of}
 use Rattle.project_core.specs.Rows.{report_of}
 use Rattle.project_core.specs.declared.rows.FileReport.TheVariants.{In}

@@ -6,7 +6,7 @@ use Rattle.std.proofs.lemmas.Str.{IsUtf8-from_ascii}
 use Rattle.std.proofs.lemmas.Slice.Eq.{bytes_eq-Decides}
 use Rattle.std.specs.Fmt.{decimal}
 use Rattle.script_reader.proofs.heading.byte_count.Goals as goal
-use Rattle.script_reader.proofs.heading.byte_count.Goals.{then-count-gt-FILE_LIMIT-via-then-count-gt-FILE_LIMIT, then-count-gt-FILE_LIMIT-via-else-count-gt-FILE_LIMIT+then-ne}
+use Rattle.script_reader.proofs.heading.byte_count.Goals.{then-count-gt-FILE_BYTES-via-then-count-gt-FILE_BYTES, then-count-gt-FILE_BYTES-via-else-count-gt-FILE_BYTES+then-ne}
 
 pub returns-in_default : goal.returns-in_default
 returns-in_default c = λ n le e. c.in_default.ensures.cases.0 (subst (λ bs. IsUtf8 bs) (sym e) (IsUtf8-from_ascii (decimal n) (IsAscii-decimal n (omega arith))))
@@ -15,13 +15,13 @@ pub returns-in_default-parse : goal.returns-in_default-parse
 returns-in_default-parse c = λ n le e.
     let p : c.parse.result ≡ Ok n = parse-decimal 64 n c.in-Ok.text.now c.parse.result (omega arith) (omega arith) (c.in-Ok.ensures.cases.0 ∙ e) c.parse.ensures.value.0 in cc
 
-pub returns-then-count-gt-FILE_LIMIT : goal.returns-then-count-gt-FILE_LIMIT
-returns-then-count-gt-FILE_LIMIT c = λ n le e.
+pub returns-then-count-gt-FILE_BYTES : goal.returns-then-count-gt-FILE_BYTES
+returns-then-count-gt-FILE_BYTES c = λ n le e.
     let p : c.parse.result ≡ Ok n = parse-decimal 64 n c.in-Ok.text.now c.parse.result (omega arith) (omega arith) (c.in-Ok.ensures.cases.0 ∙ e) c.parse.ensures.value.0 in
     let same : c.in-Ok-parse.count ≡ n = cc in
-    elim c.then-count-gt-FILE_LIMIT.branch [
-      | then-count-gt-FILE_LIMIT-via-then-count-gt-FILE_LIMIT w ↦ omega arith
-      | then-count-gt-FILE_LIMIT-via-else-count-gt-FILE_LIMIT+then-ne w ↦
+    elim c.then-count-gt-FILE_BYTES.branch [
+      | then-count-gt-FILE_BYTES-via-then-count-gt-FILE_BYTES w ↦ omega arith
+      | then-count-gt-FILE_BYTES-via-else-count-gt-FILE_BYTES+then-ne w ↦
           let printed : w.as_bytes.result.now ≡ c.args.digits.now = w.as_bytes.ensures.value ∙ (w.format.ensures.text ∙ (ap decimal same ∙ sym e)) in
           let equal : bytes_eq w.as_bytes.result.now c.args.digits.now ≡ true = (bytes_eq-Decides w.as_bytes.result.now c.args.digits.now).1 printed in
           let differs : true ≡ not (bytes_eq w.as_bytes.result.now c.args.digits.now) = w.if-ne.ensures in

@@ -1,6 +1,7 @@
 use Rattle.std.proofs.Common.{◌∙◌, sym, ◌+◌, take, drop}
-use Rattle.script_reader.proofs.Headings.{put_none, put_words, put_spaced, put_stopped, rest_is}
+use Rattle.script_reader.proofs.Headings.{put_none, put_words, put_spaced, put_stopped}
 use Rattle.script_reader.proofs.heading.read_put.Goals as goal
+use Rattle.linker_base.proofs.Lists.{rest_is}
 
 pub returns-in_default : goal.returns-in_default
 returns-in_default c = put_none c.args.words.now (λ name text form e. c.in_default.ensures (put_spaced c.args.words.now name text e))

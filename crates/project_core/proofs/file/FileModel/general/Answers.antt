@@ -1,9 +1,7 @@
 -- Each reference is that of a definition with a general.
-use Rattle.std.proofs.Common.{◌≡◌, ◌<◌, List, ℕ, Some, None, length, sym, ◌∙◌, ap, subst}
-use Rattle.std.specs.Prelude.{slice_index, slice_index_or}
-use Rattle.first_reader.specs.declared.package.Definition.{Definition}
+use Rattle.std.proofs.Common.{◌≡◌, ◌<◌, length, sym, ◌∙◌, ap, subst}
+use Rattle.std.specs.Prelude.{slice_index}
 use Rattle.first_reader.specs.declared.package.Package.{Package}
-use Rattle.first_reader.specs.declared.package.Written.{Written}
 use Rattle.project_core.specs.Names.{generals_from}
 use Rattle.project_core.specs.Lookup.{general_at}
 use Rattle.project_core.proofs.LinkLaws.{general_below, general_found}

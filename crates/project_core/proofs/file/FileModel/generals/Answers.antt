@@ -1,7 +1,6 @@
 -- No more definitions have a general than there are.
-use Rattle.std.proofs.Common.{◌≤◌, length, subst, sym, ◌∙◌}
+use Rattle.std.proofs.Common.{◌≤◌, length, subst}
 use Rattle.first_reader.specs.declared.package.Package.{Package}
-use Rattle.project_core.specs.Names.{generals_from}
 use Rattle.project_core.proofs.NameLaws.{generals_few}
 use Rattle.project_core.proofs.file.FileModel.generals.Goals as goal
 

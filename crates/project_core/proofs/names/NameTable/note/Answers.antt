@@ -1,7 +1,5 @@
 -- The table after a note.
-use Rattle.std.proofs.Common.{◌≡◌, List, ℕ, Some, cond, nat_eq, refl, sym, ◌∙◌, ap, subst}
-use Rattle.std.specs.Cmp.Lexicographic.{pointwise}
-use Rattle.project_core.specs.Names.{bearers_in, noted}
+use Rattle.std.proofs.Common.{◌≡◌, refl, ◌∙◌}
 use Rattle.project_core.proofs.NameLaws.{table_more}
 use Rattle.project_core.proofs.names.NameTable.note.Goals as goal
 

@@ -1,6 +1,6 @@
 -- The bytes of the book after a put.
-use Rattle.std.proofs.Common.{◌≡◌, ◌≤◌, ◌+◌, length, sym, ◌∙◌, ap, subst, arith}
-use Rattle.session_model.specs.Book.{Book, bytes_in, held_in}
+use Rattle.std.proofs.Common.{◌∙◌, ap, arith}
+use Rattle.session_model.specs.Book.{bytes_in}
 use Rattle.project_core.proofs.BookLaws.{bytes_put, held_most, put_fits, bytes_full}
 use Rattle.project_core.proofs.project.Project.bytes_after.Goals as goal
 

@@ -1,11 +1,11 @@
 -- The rows by the tables are those of the links.
-use Rattle.std.proofs.Common.{◌≡◌, List, ℕ, Some, None, Ok, sym, ◌∙◌, ap, subst}
-use Rattle.session_model.specs.Book.{text_at, number_in, file_number}
+use Rattle.std.proofs.Common.{Ok, sym, ◌∙◌, ap, subst}
+use Rattle.session_model.specs.Book.{text_at, file_number}
 use Rattle.project_core.specs.Names.{generals_from}
 use Rattle.project_core.specs.Lookup.{table_rows}
 use Rattle.project_core.specs.Rows.{AreLive}
 use Rattle.project_core.proofs.QueryLaws.{all_live}
-use Rattle.project_core.proofs.LinkLaws.{links_are, links_bare, links_none}
+use Rattle.project_core.proofs.LinkLaws.{links_are, links_none}
 use Rattle.project_core.proofs.project.Project.links.Goals as goal
 
 pub returns-in_default-clause-rows : goal.returns-in_default-clause-rows

@@ -1,5 +1,5 @@
 -- One file more.
-use Rattle.std.proofs.Common.{◌++◌, ◌∷◌, [], take, get_or, sym, ◌∙◌, ap, subst}
+use Rattle.std.proofs.Common.{take, get_or, sym, ◌∙◌, ap, subst}
 use Rattle.std.proofs.lemmas.List.{take_more}
 use Rattle.project_core.specs.Names.{IsTable}
 use Rattle.project_core.specs.Lookup.{root_notes}

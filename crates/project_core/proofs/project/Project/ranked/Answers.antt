@@ -1,5 +1,5 @@
 -- All files are ranked.
-use Rattle.std.proofs.Common.{◌≡◌, ◌∙◌, ap, arith}
+use Rattle.std.proofs.Common.{◌∙◌, ap, arith}
 use Rattle.session_model.specs.Book.{ranked_upto, ranked}
 use Rattle.project_core.proofs.project.Project.ranked.Goals as goal
 

@@ -1,5 +1,5 @@
 -- A file takes its place before the first name that is above its own.
-use Rattle.std.proofs.Common.{◌≡◌, List, ℕ, Bool, Option, not, sym, ◌∙◌, ap, arith}
+use Rattle.std.proofs.Common.{List, ℕ, Bool, Option, not, sym, ◌∙◌, ap, arith}
 use Rattle.std.specs.Prelude.{insert}
 use Rattle.std.specs.List.{prefix_len}
 use Rattle.std.specs.Option.{option_map_or}
