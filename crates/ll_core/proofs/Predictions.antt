@@ -165,7 +165,8 @@ unfolding PassAt
 foretold-from_test t e = record {
   rising = λ a. rises-from_test 0 (predictions_of t a) (right-from_test t 0 t.predictions both.0 a).0;
   right = λ a x m. for-from_test t a x.look x.production
-      (each_member (is_right t a) (predictions_of t a) x (subst (λ n. list_all (is_right t n) (predictions_of t a) ≡ true) (zero-add a) (right-from_test t 0 t.predictions both.0 a).1) m);
+      (each_member (is_right t a) (predictions_of t a) x (subst (λ n. list_all (is_right t n) (predictions_of t a) ≡ true) (zero-add a)
+      (right-from_test t 0 t.predictions both.0 a).1) m);
   whole = λ a k p h. subst (λ n. IsMember (predictions_of t n) (of_parts k p)) h.2 (member-from_tells (predictions_of t h.0.left) p k
       (all_begin-passes t h.0.right (follow_of t h.0.left) (tells (predictions_of t h.0.left) p)
       (subst (λ n. is_told t n h.0 ≡ true) (zero-add p) (told-from_test t 0 t.rules both.1 p h.0 h.1)) k h.3));

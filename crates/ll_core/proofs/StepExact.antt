@@ -18,7 +18,8 @@ use Rattle.ll_core.specs.Step.{Stepped, IsExact}
 use Rattle.ll_core.proofs.AtStep.{front_look, shift_front, shift_taken, begun_at}
 
 -- a tree that goes on so is one of tokens that agree with the look
-pub more_of : (t : Table) (ks : List ℕ) (look : Option ℕ) (f : Forest) → GoesOn t ks look f → (more : List ℕ) × IsTree t (ks ++ more) f × Agrees (Some look) more
+pub more_of : (t : Table) (ks : List ℕ) (look : Option ℕ) (f : Forest) → GoesOn t ks look f
+    → (more : List ℕ) × IsTree t (ks ++ more) f × Agrees (Some look) more
 more_of t ks None f g = ([], (g.0, g.1 ∙ sym (append-nil ks)), refl)
 more_of t ks (Some k) f g = (k ∷ g.0, g.1, refl)
 
@@ -78,7 +79,8 @@ module _ (t : Table) (ok : IsChecked t) (look : Option ℕ) (stack : List Task) 
   unfolding here told
   exact_ends at result h none whole = ends result h where
     empty : stack ≡ []
-    empty = told_empty t old.trace.given old.trace.shifted stack (subst (λ l. IsAt t old.trace.given old.trace.shifted (Some l) stack) none at) whole.0 whole.1 whole.2
+    empty = told_empty t old.trace.given old.trace.shifted stack (subst (λ l. IsAt t old.trace.given old.trace.shifted
+        (Some l) stack) none at) whole.0 whole.1 whole.2
 
     ends : (result : Result Event ParseFault) → Stepped t look stack old new result → result ≡ Ok End
     ends (Ok (Open p)) h = absurd (h.4 empty)

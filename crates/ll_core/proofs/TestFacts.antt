@@ -55,7 +55,8 @@ test-from_begins t (Terminal j ∷ ss) b k P f h = eq-eqb k j h
 test-from_begins t (Inner a ∷ ss) b k P f (inl h) =
     or_left (has (first_of t a) k) (empty_of t a && begins_with t ss b k) (has-from_member (first_of t a) k h)
 test-from_begins t (Inner a ∷ ss) b k P f (inr h) =
-    or_right (has (first_of t a) k) (empty_of t a && begins_with t ss b k) (and_true (empty_of t a) (begins_with t ss b k) h.0 (test-from_begins t ss b k P f h.1))
+    or_right (has (first_of t a) k) (empty_of t a && begins_with t ss b k) (and_true (empty_of t a) (begins_with t ss b k) h.0
+    (test-from_begins t ss b k P f h.1))
 
 pub predicts-from_test : (t : Table) (r : Rule) (k : ℕ) → is_predicted t r k ≡ true → Predicts t r k
 predicts-from_test t r k e =
@@ -75,7 +76,8 @@ all_begin-passes t (Inner a ∷ ss) behind test e k (inl m) =
     each_member test (first_of t a) k (both_true (list_all test (first_of t a)) (not (empty_of t a) || all_begin t ss behind test) e).0 m
 all_begin-passes t (Inner a ∷ ss) behind test e k (inr h) =
     all_begin-passes t ss behind test
-    (where_true (empty_of t a) (all_begin t ss behind test) (both_true (list_all test (first_of t a)) (not (empty_of t a) || all_begin t ss behind test) e).1 h.0) k h.1
+    (where_true (empty_of t a) (all_begin t ss behind test) (both_true (list_all test (first_of t a)) (not
+    (empty_of t a) || all_begin t ss behind test) e).1 h.0) k h.1
 
 pub passes-all_begin : (t : Table) (ss : List Symbol) (behind : List ℕ) (test : ℕ → Bool)
     → ((k : ℕ) → Begins t ss (IsMember behind) k → test k ≡ true) → all_begin t ss behind test ≡ true
@@ -129,7 +131,8 @@ pub lower-from_test : (t : Table) (height : ℕ) (ss : List Symbol) → list_all
 lower-from_test t height [] e = tt
 lower-from_test t height (Terminal k ∷ ss) e = lower-from_test t height ss e
 lower-from_test t height (Inner a ∷ ss) e =
-    let b = both_true (nat_lt (height_of t a) height) (list_all (is_lower t height) ss) e in (ltb-true (height_of t a) height b.0, lower-from_test t height ss b.1)
+    let b = both_true (nat_lt (height_of t a) height) (list_all (is_lower t height) ss) e in
+    (ltb-true (height_of t a) height b.0, lower-from_test t height ss b.1)
 
 pub test-from_lower : (t : Table) (height : ℕ) (ss : List Symbol) → AllLower t height ss → list_all (is_lower t height) ss ≡ true
 test-from_lower t height [] h = refl

@@ -70,6 +70,7 @@ impl Work {
     }
 
     /// Where the stack is empty.
+    #[inline(always)]
     fn finish(&mut self, grammar: &Grammar, look: Option<u16>) -> Result<Event, ParseFault>
         requires checked { IsChecked (table_of grammar.now) }
         requires empty { self.old.stack.items ≡ [] }
@@ -83,6 +84,7 @@ impl Work {
     }
 
     /// Where this terminal was on top of the stack.
+    #[inline(always)]
     fn shift(
         &mut self,
         grammar: &Grammar,
@@ -106,6 +108,7 @@ impl Work {
     }
 
     /// Where the end of a production was on top of the stack.
+    #[inline(always)]
     fn close(&mut self, grammar: &Grammar, look: Option<u16>) -> Result<Event, ParseFault>
         requires checked { IsChecked (table_of grammar.now) }
         requires at { StandsAt (table_of grammar.now) look
@@ -117,7 +120,9 @@ impl Work {
         Ok(Event::Close)
     }
 
-    /// Where this symbol was on top of the stack.
+    /// Where this symbol was on top of the stack. It stays a call, so that the other tasks are done in
+    /// their caller's loop.
+    #[inline(never)]
     fn open(
         &mut self,
         grammar: &Grammar,
@@ -144,6 +149,7 @@ impl Work {
     }
 
     /// Does the task on top of the stack.
+    #[inline(always)]
     fn do_task(&mut self, grammar: &Grammar, look: Option<u16>) -> Result<Event, ParseFault>
         requires checked { IsChecked (table_of grammar.now) }
         requires at { StandsAt (table_of grammar.now) look (reverse self.old.stack.items) self.old }
@@ -159,6 +165,7 @@ impl Work {
     }
 
     /// The next event, with all that callers may know of it.
+    #[inline(always)]
     pub fn step(&mut self, grammar: &Grammar, look: Option<u16>) -> Result<Event, ParseFault>
         requires checked { IsChecked (table_of grammar.now) }
         requires at { StandsAt (table_of grammar.now) look (reverse self.old.stack.items) self.old }

@@ -5,4 +5,5 @@ use Rattle.ll_core.proofs.stack.Work.step.Goals as goal
 
 pub returns-clause-exact : goal.returns-clause-exact
 returns-clause-exact c =
-    exact_step (table_of c.args.grammar.now) c.requires.checked c.args.look (reverse c.args.self.now.stack.items) c.args.self.now c.do_task.new.self c.do_task.result c.requires.at c.do_task.ensures
+    exact_step (table_of c.args.grammar.now) c.requires.checked c.args.look
+    (reverse c.args.self.now.stack.items) c.args.self.now c.do_task.new.self c.do_task.result c.requires.at c.do_task.ensures
