@@ -15,7 +15,7 @@ import textwrap
 
 sys.dont_write_bytecode = True
 
-from action_tables import ACTION_FILES, named_productions
+from action_tables import action_files, named_productions
 from grammar_tables import (END, END_OF_TEXT, HERE, LANGUAGES, VALUED, conflicts, lists, predictions, table_of, terminals,
                             text_of)
 from module_text import head, listed, numbers, rows
@@ -168,8 +168,8 @@ def generated():
         for part, module in GRAMMAR_FILES.items():
             yield f'{language}_grammar/src/{part}.rt', module(language)
         yield f'{language}_grammar/specs/Rules.antt', rules_module(language)
-    for path, module in ACTION_FILES.items():
-        yield path, module()
+    for path, text in action_files():
+        yield 'text_model/' + path, text
 
 
 def report():

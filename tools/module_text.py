@@ -24,3 +24,10 @@ def numbers(note, static, items):
     """A static of numbers, in lines."""
     inside = ''.join(f'    {row}\n' for row in rows(f'{item},' for item in items))
     return f'/// {note}\n#[rattlefmt::skip]\npub static {static} = [\n{inside}];\n'
+
+
+def definition(uses, note, name, kind, lines, source):
+    """A list as a definition, each item with what it stands for."""
+    inside = ''.join(f'    {item} ∷  -- {text}\n' for item, text in lines)
+    return (f'-- Made by `tools/make_table.py`: change {source}, not this file.\n{uses}\n-- {note}\n'
+            f'unfoldable pub {name} : List {kind}\n{name} =\n{inside}    []\n')
