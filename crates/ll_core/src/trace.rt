@@ -1,6 +1,6 @@
 //! What a parser told and took, for contracts alone. It takes no memory, and its calls do nothing when
 //! they run.
-ghost use Rattle.std.specs.Prelude.{◌≡◌, ℕ, List, [], ◌∷◌, ◌++◌};
+ghost use Rattle.std.specs.Prelude.{◌≡◌, ℕ, Option, Some, None, List, [], ◌∷◌, ◌++◌};
 ghost use Rattle.std.specs.Borrow.{ftrue};
 ghost use Rattle.ll_core.specs.declared.event.Event.{Event};
 
@@ -43,5 +43,42 @@ impl Trace {
             × (result.shifted ≡ self.now.shifted ++ _token.now ∷ []) }
     {
         Trace {}
+    }
+}
+
+/// The look of a parser's last call, and the look that the next call has to repeat.
+#[derive(Drop)]
+pub struct Looks {
+    pub ghost looked: { Option (Option ℕ) },
+    pub ghost ahead: { Option (Option ℕ) },
+}
+
+impl Model for Looks {
+    ghost also_owns = { λ _. ftrue };
+}
+
+impl Looks {
+    /// No call was made.
+    #[inline(always)]
+    pub(crate) fn new() -> Looks
+        ensures { (result.looked ≡ None) × (result.ahead ≡ None) }
+    {
+        Looks {}
+    }
+
+    /// The last call had this look, and the next repeats it.
+    #[inline(always)]
+    pub(crate) fn repeated(&self, _look: &Option<u16>) -> Looks
+        ensures { (result.looked ≡ Some _look.now) × (result.ahead ≡ Some _look.now) }
+    {
+        Looks {}
+    }
+
+    /// The last call had this look, and the next has any.
+    #[inline(always)]
+    pub(crate) fn passed(&self, _look: &Option<u16>) -> Looks
+        ensures { (result.looked ≡ Some _look.now) × (result.ahead ≡ None) }
+    {
+        Looks {}
     }
 }

@@ -53,16 +53,17 @@ module _ {M : Type 1} {𝓤 : Ura M} (𝓛 : Logic 𝓤) (mem : Memory → SProp
     abbrev passed : Fml
     passed = owns (types_at f.signature.params κs) a (before ∷ [], (named_by ∷ [], tt))
 
+    abbrev made : trail.the_row.Denot
+    made = record { given = a.0.now.given; shifted = a.0.now.shifted ++ a.1.0.now ∷ [] }
+
     walk : ent 𝓤 (on_entry 𝓛 f.signature κs qs a (before ∷ [], (named_by ∷ [], tt)))
         (WpFn 𝓤 H C Λ code.function (before ∷ named_by ∷ []) ((walk_of 𝓛 f.ended stayed (f.clauses 𝓛 mem run)).post bound))
     walk =
         qed 𝓛 (raw (alive 𝓛 f.signature κs qs) ∷ ‵ passed ∷ []) ∵ enter ! C Λ code.function (before ∷ named_by ∷ []) _ $
         alloc_all ! (λ l. pass_all ! refl ((tt, tt), ((tt, tt), tt)) $ sets ! (agg ! (no_more !)) refl (tt, tt) $
         returns ! (look_at ! 0 refl) $ free_all ! refl $
-        suffices ! _ (ends_at 𝓛 f.ended stayed (f.clauses 𝓛 mem run) bound (vstruct vnil)
-        (record { given = a.0.now.given; shifted = a.0.now.shifted ++ a.1.0.now ∷ [] }) (tt, (tt, tt)) (tt, (tt, tt))) $
-        says ! (refl, refl) $ pure_i ! (trail.the_row.own_val (record { given = a.0.now.given; shifted = a.0.now.shifted ++ a.1.0.now ∷ [] }) (vstruct vnil
-        ∷ [])) ((λ vss. (tt, tt)), tt) ((tt, (refl, tt)), tt) $
+        suffices ! _ (ends_at 𝓛 f.ended stayed (f.clauses 𝓛 mem run) bound (vstruct vnil) made (tt, (tt, tt)) (tt, (tt, tt))) $
+        says ! (refl, refl) $ pure_i ! (trail.the_row.own_val made (vstruct vnil ∷ [])) ((λ vss. (tt, tt)), tt) ((tt, (refl, tt)), tt) $
         move ! (1 ∷ 2 ∷ 0 ∷ []) $ done !)
 
   walks : Walks 𝓛 f.ended stayed (WpFn 𝓤 H C Λ code.function) (f.clauses 𝓛 mem run)
@@ -77,8 +78,7 @@ meets {𝓤 = 𝓤} 𝓛 mem run 𝓣 =
     walk_Meets 𝓛 f.ended stayed (
       Goes-none_ref 𝓛 2 (0 ∷ []) tt (plain (λ _. trail.the_row)) yes,
       (
-        Goes-none_ref 𝓛 2 (1
-            ∷ []) tt (plain (λ _. u16)) yes,
+        Goes-none_ref 𝓛 2 (1 ∷ []) tt (plain (λ _. u16)) yes,
         tt,
       ),
     ) (f.clauses 𝓛 mem run) (WpFn 𝓤 𝓛.H 𝓣.C 𝓣.Λ code.function)
