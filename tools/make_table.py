@@ -1,355 +1,175 @@
 #!/usr/bin/env python3
-"""Makes the flat table of a grammar for the crate ll_core.
+"""Writes the crates' tables of the two grammars and of what their productions and words mean.
 
-  make_table.py kerml|sysml            prints the table as a Rattle module
-  make_table.py kerml|sysml --numbers  prints the productions with their numbers and names
-  make_table.py --terminals            prints the numbers of the terminals of both languages
-  make_table.py --report               prints counts and conflicts of both grammars; exit 1 where there is one
+  make_table.py                         writes each generated file
+  make_table.py --check                 says which of them differ from what would be written; exit 1 where one does
+  make_table.py --report                prints counts and conflicts of both grammars; exit 1 where there is one
+  make_table.py --numbers kerml|sysml   prints the productions with their numbers and names
 
-The grammars stand in grammars/: common.grammar, and the file of the language. In them NAME, INT, STRING
-and COMMENT are tokens, and other terminals stand in quotes. `[ X ]` is an inner symbol with the
-productions X and nothing; `{ X }` is one with X followed by itself, and nothing; alternatives in round
-brackets are an inner symbol of their own. Equal ones are one symbol. File is the start symbol.
-
-A terminal's number is its place in terminals(): the tokens with a value, the signs, and the words in
-alphabetical order. A production's number is its place among the productions, which are ordered by their
-left symbols; those of a rule come in the order of its alternatives. A production is named after its left
-symbol and its place there, as SPEC_2 for the third alternative of Spec; a rule with one alternative
-gives the bare name.
+grammar_tables.py says how the grammars are read, and action_tables.py how the tables of meanings are.
 """
 import argparse
 import os
-import re
 import sys
-from dataclasses import dataclass, field
+import textwrap
 
-HERE = os.path.dirname(os.path.abspath(__file__))
-VALUED = ['NAME', 'INT', 'STRING', 'COMMENT']
-END = 65535
-END_OF_TEXT = 'the end of the text'
-LANGUAGES = ('kerml', 'sysml')
-CLOSING = {'(': ')', '[': ']', '{': '}'}
-SIGN_NAMES = dict(zip('{}[]()<>;,.:=!+-*/%&|~^@#$?', (
-    'Brace Brace Bracket Bracket Round Round Less Greater Semicolon Comma Dot Colon Equals Not Plus Minus '
-    'Star Slash Percent And Bar Tilde Caret At Hash Dollar Question').split()))
-TOKEN = re.compile(r"\s*(?:'([^']+)'|([A-Za-z][A-Za-z0-9]*)|(\S))")
+sys.dont_write_bytecode = True
 
+from action_tables import action_files, named_productions
+from grammar_tables import (END, END_OF_TEXT, HERE, LANGUAGES, VALUED, conflicts, lists, predictions, table_of, terminals,
+                            text_of)
+from module_text import head, listed, numbers, rows
 
-# A grammar's text
-
-def read_rules(text):
-    """Maps each rule's name to its alternatives. An item is ('terminal', text), ('rule', name), or
-    (bracket, alternatives)."""
-    tokens = [m.groups() for m in TOKEN.finditer(text.strip())]
-    at = 0
-
-    def sign(expected=None):
-        found = tokens[at][2] if at < len(tokens) else None
-        return found is not None and (expected is None or found == expected)
-
-    def alternatives():
-        nonlocal at
-        found = [sequence()]
-        while sign('|'):
-            at += 1
-            found.append(sequence())
-        return tuple(found)
-
-    def sequence():
-        nonlocal at
-        items = []
-        while not sign() or tokens[at][2] in CLOSING:
-            quoted, word, bracket = tokens[at]
-            at += 1
-            if bracket:
-                items.append((bracket, alternatives()))
-                if not sign(CLOSING[bracket]):
-                    raise SystemExit(f'no {CLOSING[bracket]} before token {at}')
-                at += 1
-            elif quoted or word in VALUED:
-                items.append(('terminal', quoted or word))
-            else:
-                items.append(('rule', word))
-        return tuple(items)
-
-    rules = {}
-    while at < len(tokens):
-        name = tokens[at][1]
-        at += 1
-        if not sign('='):
-            raise SystemExit(f'no = after {name}')
-        at += 1
-        rules[name] = alternatives()
-        if not sign('.'):
-            raise SystemExit(f'no . after {name}')
-        at += 1
-    return rules
+SPANS = """
+macro_rules! spans {
+    ($($from:literal..$upto:literal,)*) => { [$(Span { from: $from, upto: $upto }),*] };
+}
+"""
 
 
-def rules_of(language):
-    rules = {}
-    for name in ('common', language):
-        with open(os.path.join(HERE, 'grammars', name + '.grammar')) as text:
-            for rule, found in read_rules(text.read()).items():
-                if rule in rules:
-                    raise SystemExit(f'{rule} stands twice')
-                rules[rule] = found
-    return rules
-
-
-def terminals_in(alternatives, found):
-    for items in alternatives:
-        for kind, value in items:
-            if kind == 'terminal':
-                found.add(value)
-            elif kind != 'rule':
-                terminals_in(value, found)
-
-
-def terminals():
-    """All terminals of both languages, in the order of their numbers."""
-    found = set()
-    for language in LANGUAGES:
-        for alternatives in rules_of(language).values():
-            terminals_in(alternatives, found)
-    found -= set(VALUED)
-    words = sorted(t for t in found if t.isalpha())
-    return VALUED + sorted(found - set(words)) + words
-
-
-# Productions without brackets
-
-@dataclass
-class Production:
-    left: str
-    right: list          # of ('terminal', text) and ('inner', symbol)
-    name: str = ''
-
-
-@dataclass
-class Table:
-    symbols: list
-    productions: list
-    empty: dict = field(default_factory=dict)
-    first: dict = field(default_factory=dict)
-    follow: dict = field(default_factory=dict)
-    height: dict = field(default_factory=dict)
-    rank: dict = field(default_factory=dict)
-
-
-def word_of(terminal):
-    return ''.join(SIGN_NAMES.get(c, c) for c in terminal)
-
-
-def bracket_name(bracket, alternatives):
-    """A name for the inner symbol that the brackets make, after the first things that they hold."""
-    def held(items):
-        for kind, value in items:
-            if kind == 'terminal':
-                yield word_of(value)
-            elif kind == 'rule':
-                yield value
-            else:
-                yield from held(value[0])
-
-    words = [w for items in alternatives for w in held(items)]
-    prefix = {'[': 'Maybe', '{': 'Many', '(': 'One'}[bracket]
-    return prefix + ''.join(w[:1].upper() + (w[1:].lower() if w.isupper() else w[1:]) for w in words[:3])
-
-
-def unused(name, names):
-    """The name, with a number behind it where it is taken."""
-    if name not in names:
-        return name
-    number = 2
-    while f'{name}{number}' in names:
-        number += 1
-    return f'{name}{number}'
-
-
-def expand(rules):
-    symbols = list(rules)
-    productions = []
-    made = {}
-
-    def symbol(item):
-        kind, value = item
-        if kind == 'terminal':
-            return item
-        if kind == 'rule':
-            if value not in rules:
-                raise SystemExit(f'there is no rule {value}')
-            return ('inner', value)
-        if item not in made:
-            name = unused(bracket_name(kind, value), symbols)
-            made[item] = name
-            symbols.append(name)
-            inside = [symbol(i) for i in value[0]] if len(value) == 1 else [symbol(('(', value))]
-            if kind == '(':
-                for items in value:
-                    productions.append(Production(name, [symbol(i) for i in items]))
-            else:
-                productions.append(Production(name, inside + ([('inner', name)] if kind == '{' else [])))
-                productions.append(Production(name, []))
-        return ('inner', made[item])
-
-    for rule, alternatives in rules.items():
-        for items in alternatives:
-            productions.append(Production(rule, [symbol(i) for i in items]))
-    order = {name: i for i, name in enumerate(symbols)}
-    productions.sort(key=lambda p: order[p.left])
-    for p in productions:
-        those = [q for q in productions if q.left == p.left]
-        name = re.sub(r'(?<=[a-z0-9])(?=[A-Z])', '_', p.left).upper()
-        p.name = name if len(those) == 1 else f'{name}_{those.index(p)}'
-    return Table(symbols, productions)
-
-
-# The claims
-
-def begins(table, symbols):
-    """The terminals that begin these symbols, and whether they may derive nothing."""
-    found = set()
-    for kind, value in symbols:
-        if kind == 'terminal':
-            return found | {value}, False
-        found |= table.first[value]
-        if not table.empty[value]:
-            return found, False
-    return found, True
-
-
-def grow(table, step):
-    """Repeats a step over all productions until none changes the claims."""
-    while any([step(p) for p in table.productions]):
-        pass
-
-
-def add_claims(table):
-    table.empty = {s: False for s in table.symbols}
-    table.first = {s: set() for s in table.symbols}
-    table.follow = {s: set() for s in table.symbols}
-    table.follow['File'].add(END_OF_TEXT)
-
-    def grow_first(p):
-        found, empty = begins(table, p.right)
-        changed = not found <= table.first[p.left] or empty and not table.empty[p.left]
-        table.first[p.left] |= found
-        table.empty[p.left] |= empty
-        return changed
-
-    def grow_follow(p):
-        changed = False
-        for i, (kind, value) in enumerate(p.right):
-            if kind == 'inner':
-                found, empty = begins(table, p.right[i + 1:])
-                found = found | table.follow[p.left] if empty else found
-                changed |= not found <= table.follow[value]
-                table.follow[value] |= found
-        return changed
-
-    def grow_height(p):
-        below = [value for kind, value in p.right if kind == 'inner']
-        if not all(b in table.height for b in below):
-            return False
-        height = max([table.height[b] + 1 for b in below], default=0)
-        changed = height < table.height.get(p.left, END)
-        if changed:
-            table.height[p.left] = height
-        return changed
-
-    grow(table, grow_first)
-    grow(table, grow_follow)
-    grow(table, grow_height)
-    add_ranks(table)
-
-
-def add_ranks(table):
-    leading = {s: set() for s in table.symbols}
-    for p in table.productions:
-        for kind, value in p.right:
-            if kind == 'terminal':
-                break
-            leading[p.left].add(value)
-            if not table.empty[value]:
-                break
-
-    def rank(symbol, above):
-        if symbol in above:
-            raise SystemExit(f'{symbol} is left recursive')
-        if symbol not in table.rank:
-            table.rank[symbol] = max([rank(s, above | {symbol}) + 1 for s in leading[symbol]], default=0)
-        return table.rank[symbol]
-
-    for symbol in table.symbols:
-        rank(symbol, frozenset())
-
-
-def conflicts(table):
-    """Pairs of productions of one symbol with a look-ahead in common."""
-    found, taken = [], {}
-    for p in table.productions:
-        looks, empty = begins(table, p.right)
-        for look in looks | (table.follow[p.left] if empty else set()):
-            other = taken.setdefault((p.left, look), p)
-            if other is not p:
-                found.append((other.name, p.name, look))
-    return found
-
-
-def table_of(language):
-    table = expand(rules_of(language))
-    add_claims(table)
-    lost = [s for s in table.symbols if s not in table.height]
-    if lost:
-        raise SystemExit(f'these derive nothing: {lost}')
-    return table
-
-
-# The module
-
-def array(name, kind, items, note):
-    return f'/// {note}\npub static {name}: [{kind}; {len(items)}] = [{", ".join(items)}];'
-
-
-def module(language):
-    table = table_of(language)
-    number = {t: i for i, t in enumerate(terminals())}
-    number[END_OF_TEXT] = END
+def symbols_module(language):
+    table, number = table_of(language), terminals(language)
     inner = {s: i for i, s in enumerate(table.symbols)}
+    lines, count = [], 0
+    for p in table.productions:
+        items = [f'Terminal {number[v]},' if k == 'terminal' else f'Inner {inner[v]},' for k, v in p.right]
+        count += len(items)
+        if items:
+            lines.append((text_of(p), ' '.join(items)))
+    return '\n'.join([
+        head(),
+        'use ll_core::Symbol;',
+        """
+macro_rules! symbols {
+    ($($sort:ident $number:literal,)*) => { [$(Symbol::$sort($number)),*] };
+}
+""",
+        listed('The right sides of all productions, one after another.', f'SYMBOLS: [Symbol; {count}]', 'symbols', lines)])
+
+
+def productions_module(language):
+    table = table_of(language)
+    inner = {s: i for i, s in enumerate(table.symbols)}
+    lines, count = [], 0
+    for p in table.productions:
+        lines.append((text_of(p), '%d: %d..%d,' % (inner[p.left], count, count + len(p.right))))
+        count += len(p.right)
+    return '\n'.join([
+        head(),
+        'use ll_core::{Production, Span};',
+        """
+macro_rules! productions {
+    ($($left:literal: $from:literal..$upto:literal,)*) => {
+        [$(Production { left: $left, right: Span { from: $from, upto: $upto } }),*]
+    };
+}
+""",
+        listed('The productions, ordered by their left symbols.', f'PRODUCTIONS: [Production; {len(lines)}]', 'productions', lines)])
+
+
+def claims_module(language):
+    table, number = table_of(language), terminals(language)
+    number[END_OF_TEXT] = END
     flat, spans = [], {}
 
     def part(names):
-        numbers = tuple(sorted(number[n] for n in names))
-        if numbers not in spans:
-            spans[numbers] = (len(flat), len(flat) + len(numbers))
-            flat.extend(numbers)
-        return 'Span { from: %d, upto: %d }' % spans[numbers]
+        found = tuple(sorted(number[n] for n in names))
+        if found not in spans:
+            spans[found] = (len(flat), len(flat) + len(found))
+            flat.extend(found)
+        return '%d..%d,' % spans[found]
 
-    symbols, productions = [], []
+    def by_symbol(note, name, claim):
+        return listed(note, f'{name}: [Span; {len(table.symbols)}]', 'spans', [(s, part(claim[s])) for s in table.symbols])
+
+    def plain(note, name, kind, claim):
+        return numbers(note, f'{name}: [{kind}; {len(table.symbols)}]', [str(claim[s]).lower() for s in table.symbols])
+
+    first = by_symbol('What begins each inner symbol, as parts of `TERMINALS`.', 'FIRST', table.first)
+    follow = by_symbol('What follows each inner symbol, as parts of `TERMINALS`.', 'FOLLOW', table.follow)
+    return '\n'.join([
+        head(), 'use ll_core::Span;', SPANS, first, follow,
+        numbers('The sets of terminals, each once.', f'TERMINALS: [u16; {len(flat)}]', map(str, flat)),
+        plain('Whether each inner symbol may derive no token.', 'EMPTY', 'bool', table.empty),
+        plain('A number that falls along a derivation of each inner symbol.', 'HEIGHT', 'u16', table.height),
+        plain('A number that falls to each symbol that may begin an inner one.', 'RANK', 'u16', table.rank)])
+
+
+def predictions_module(language):
+    table, number = table_of(language), terminals(language)
+    number[END_OF_TEXT] = END
+    found = predictions(table, number)
+    spans, lines, count = [], [], 0
+    for symbol in table.symbols:
+        looks = found[symbol]
+        spans.append((symbol, '%d..%d,' % (count, count + len(looks))))
+        lines.append((symbol, rows(f'{look} {production},' for look, production in looks)))
+        count += len(looks)
+    return '\n'.join([
+        head(), 'use ll_core::{Prediction, Span};', SPANS,
+        """macro_rules! predictions {
+    ($($look:literal $production:literal,)*) => {
+        [$(Prediction { look: $look, production: $production }),*]
+    };
+}
+""",
+        listed('The predictions of each inner symbol, as parts of `PREDICTIONS`.', f'PREDICTED: [Span; {len(spans)}]', 'spans', spans),
+        listed('For each inner symbol its look-aheads in rising order, each with its production.',
+               f'PREDICTIONS: [Prediction; {count}]', 'predictions', lines)])
+
+
+def rules_module(language):
+    """The productions as a definition, with the names of the inner symbols and the spellings of the terminals."""
+    table, signs = table_of(language), lists()['signs']
+
+    def item(kind, value):
+        if kind == 'inner':
+            return f'Inner {value}'
+        if value in VALUED:
+            return f'Terminal {VALUED.index(value)}'
+        return f'{"sign" if value in signs else "word"} "{value}"'
+
+    names = ''.join(f'abbrev pub {s} : ℕ\n{s} = {i}\n\n' for i, s in enumerate(table.symbols))
+    rules = ''
     for p in table.productions:
-        start = len(symbols)
-        symbols += [f'Terminal({number[v]})' if k == 'terminal' else f'Inner({inner[v]})' for k, v in p.right]
-        productions.append('Production { left: %d, right: Span { from: %d, upto: %d } }' % (inner[p.left], start, len(symbols)))
-    first = [part(table.first[s]) for s in table.symbols]
-    follow = [part(table.follow[s]) for s in table.symbols]
-    lines = [
-        f'//! The table of the grammar. Made by `tools/make_table.py {language}`: change the grammar, not this file.',
-        'use ll_core::Symbol::{Inner, Terminal};',
-        'use ll_core::{Production, Span, Symbol};',
-        '',
-        array('SYMBOLS', 'Symbol', symbols, 'The right sides of all productions, one after another.'),
-        array('PRODUCTIONS', 'Production', productions, 'The productions, ordered by their left symbols.'),
-        array('FIRST', 'Span', first, 'What begins each inner symbol, as parts of `TERMINALS`.'),
-        array('FOLLOW', 'Span', follow, 'What follows each inner symbol, as parts of `TERMINALS`.'),
-        array('TERMINALS', 'u16', [str(n) for n in flat], 'The sets of terminals, each once.'),
-        array('EMPTY', 'bool', [str(table.empty[s]).lower() for s in table.symbols], 'Whether each inner symbol may derive no token.'),
-        array('HEIGHT', 'u16', [str(table.height[s]) for s in table.symbols], 'A number that falls along a derivation of each inner symbol.'),
-        array('RANK', 'u16', [str(table.rank[s]) for s in table.symbols], 'A number that falls to each symbol that may begin an inner one.'),
-        '',
-    ]
-    lines += [f'pub const {p.name}: u16 = {i};' for i, p in enumerate(table.productions)]
-    return '\n'.join(lines) + '\n'
+        right = ''.join(f'{item(k, v)} ∷ ' for k, v in p.right) + '[]'
+        lines = textwrap.wrap(f'rule {p.left} ({right}) ∷', 114, break_long_words=False)
+        rules += ''.join(f'    {line}\n' for line in lines)
+    return f'''-- Made by `tools/make_table.py`: change tools/grammars, not this file.
+use Rattle.std.specs.Prelude.{{ℕ, List, [], ◌∷◌}}
+use Rattle.ll_core.specs.declared.grammar.Symbol.TheVariants.{{Terminal, Inner}}
+use Rattle.ll_core.specs.Table.{{Rule}}
+use Rattle.{language}_grammar.specs.Terms.{{rule, word, sign}}
+
+-- the inner symbols
+
+{names}-- the productions; NAME, INT, STRING and COMMENT are the terminals 0 to 3
+unfoldable pub {language}_rules : List Rule
+{language}_rules =
+{rules}    []
+'''
+
+
+def names_module(language):
+    """The numbers of the productions that tools/actions names."""
+    named = named_productions(language)
+    lines = [f'/// {text_of(p)}\npub const {p.name}: u16 = {i};\n'
+             for i, p in enumerate(table_of(language).productions) if p.name in named]
+    return head() + '//! These are the numbers of the productions that mean something by themselves.\n\n' + '\n'.join(lines)
+
+
+GRAMMAR_FILES = {'symbols': symbols_module, 'productions': productions_module, 'claims': claims_module,
+                 'predictions': predictions_module, 'names': names_module}
+
+
+def generated():
+    """Each generated file with its text."""
+    for language in LANGUAGES:
+        for part, module in GRAMMAR_FILES.items():
+            yield f'{language}_grammar/src/{part}.rt', module(language)
+        yield f'{language}_grammar/specs/Rules.antt', rules_module(language)
+    for path, text in action_files():
+        yield 'text_model/' + path, text
 
 
 def report():
@@ -367,26 +187,36 @@ def report():
     return 1 if bad else 0
 
 
+def write(check):
+    """Writes each file that isn't as it would be written, or names it."""
+    differ = 0
+    for path, text in generated():
+        path = os.path.join(HERE, '..', 'crates', path)
+        now = open(path).read() if os.path.exists(path) else None
+        if now == text:
+            continue
+        differ += 1
+        print(os.path.normpath(path))
+        if not check:
+            os.makedirs(os.path.dirname(path), exist_ok=True)
+            with open(path, 'w') as file:
+                file.write(text)
+    return 1 if check and differ else 0
+
+
 def main():
     words = argparse.ArgumentParser(description=__doc__, formatter_class=argparse.RawDescriptionHelpFormatter)
-    words.add_argument('language', nargs='?', choices=LANGUAGES)
+    words.add_argument('--check', action='store_true')
     words.add_argument('--report', action='store_true')
-    words.add_argument('--numbers', action='store_true')
-    words.add_argument('--terminals', action='store_true')
+    words.add_argument('--numbers', choices=LANGUAGES)
     given = words.parse_args()
     if given.report:
         sys.exit(report())
-    if given.terminals:
-        for i, terminal in enumerate(terminals()):
-            print(i, terminal)
-        return
-    if not given.language:
-        words.error('name a language, or give --report')
     if given.numbers:
-        for i, p in enumerate(table_of(given.language).productions):
-            print(i, p.name, '=', ' '.join(f"'{v}'" if k == 'terminal' and v not in VALUED else v for k, v in p.right))
-    else:
-        print(module(given.language), end='')
+        for i, p in enumerate(table_of(given.numbers).productions):
+            print(i, p.name, ':', text_of(p))
+        return
+    sys.exit(write(given.check))
 
 
 if __name__ == '__main__':

@@ -5,26 +5,30 @@ use Rattle.std.specs.Prelude.{Some, slice_get, ◌==◌, ◌||◌, not, nat_lt, 
 use Rattle.std.specs.List.{list_all, list_any}
 use Rattle.linker_base.specs.Members.{IsMember}
 use Rattle.ll_core.specs.Table.{Rule, Table}
-use Rattle.ll_core.specs.Checked.{empty_of, first_of, follow_of, height_of, rank_of, AllEmpty, Begins, Predicts, FollowsClosed, AllLower, IsInRange, IsClosed, IsPredictive, IsProductive, IsRanked, IsChecked}
-use Rattle.ll_core.specs.Test.{has, all_begin, is_numbered, is_numbered_rule, is_in_range, may_be_empty, follows_closed, is_closed_rule, is_closed, is_apart, is_apart_from, are_apart, is_predictive, is_lower, is_lowering, are_productive, is_productive, is_ranked_rule, is_ranked, is_checked}
-use Rattle.ll_core.proofs.Lists.{and_true, and_both, or_true, or_left, or_right, where_true, true_where, all_places, places_all}
-use Rattle.ll_core.proofs.TestFacts.{member-from_has, has-from_member, all_begin-passes, passes-all_begin, numbered-from_test, test-from_numbered, empty-from_test, test-from_empty, follows-from_test, test-from_follows, apart-from_test, test-from_apart, lower-from_test, test-from_lower, ranked-from_test, test-from_ranked}
+use Rattle.ll_core.specs.Checked.{empty_of, first_of, follow_of, height_of, rank_of, AllEmpty, Begins, FollowsClosed, AllLower, IsInRange, IsClosed, IsProductive, IsRanked, IsChecked}
+use Rattle.ll_core.specs.Test.{has, all_begin, is_numbered, is_numbered_rule, is_in_range, may_be_empty, follows_closed, is_closed_rule, is_closed, is_foretold, is_lower, is_lowering, are_productive, is_productive, is_ranked_rule, is_ranked, is_checked}
+use Rattle.linker_base.proofs.Cases.{both_true, and_true}
+use Rattle.ll_core.proofs.Predictions.{predictive, foretold-from_test, test-from_foretold}
+use Rattle.ll_core.proofs.Lists.{or_true, or_left, or_right, where_true, true_where, all_places, places_all}
+use Rattle.ll_core.proofs.TestFacts.{member-from_has, has-from_member, all_begin-passes, passes-all_begin, numbered-from_test, test-from_numbered, empty-from_test, test-from_empty, follows-from_test, test-from_follows, lower-from_test, test-from_lower, ranked-from_test, test-from_ranked}
 
 -- the first condition
 in_range-from_test : (t : Table) → is_in_range t ≡ true → IsInRange t
 in_range-from_test t e0 =
-    let e1 = and_true (length t.first == length t.empty) _ e0 in
-    let e2 = and_true (length t.follow == length t.empty) _ e1.1 in
-    let e3 = and_true (length t.height == length t.empty) _ e2.1 in
-    let e4 = and_true (length t.rank == length t.empty) _ e3.1 in
-    let e5 = and_true (nat_lt t.start (length t.empty)) _ e4.1 in
-    let e6 = and_true (nat_le (length t.rules) 65536) (list_all (is_numbered_rule t) t.rules) e5.1 in
-    let both = λ (r : Rule) (e : is_numbered_rule t r ≡ true). and_true (nat_lt r.left (length t.empty)) (list_all (is_numbered (length t.empty)) r.right) e in
+    let e1 = both_true (length t.first == length t.empty) _ e0 in
+    let e2 = both_true (length t.follow == length t.empty) _ e1.1 in
+    let e3 = both_true (length t.height == length t.empty) _ e2.1 in
+    let e4 = both_true (length t.rank == length t.empty) _ e3.1 in
+    let e7 = both_true (length t.predictions == length t.empty) _ e4.1 in
+    let e5 = both_true (nat_lt t.start (length t.empty)) _ e7.1 in
+    let e6 = both_true (nat_le (length t.rules) 65536) (list_all (is_numbered_rule t) t.rules) e5.1 in
+    let both = λ (r : Rule) (e : is_numbered_rule t r ≡ true). both_true (nat_lt r.left (length t.empty)) (list_all (is_numbered (length t.empty)) r.right) e in
     record {
       first_length = eqb-true (length t.first) (length t.empty) e1.0;
       follow_length = eqb-true (length t.follow) (length t.empty) e2.0;
       height_length = eqb-true (length t.height) (length t.empty) e3.0;
       rank_length = eqb-true (length t.rank) (length t.empty) e4.0;
+      predictions_length = eqb-true (length t.predictions) (length t.empty) e7.0;
       start = ltb-true t.start (length t.empty) e5.0;
       few = leb-true (length t.rules) 65536 e6.0;
       left = all_places (is_numbered_rule t) _ (λ r e. ltb-true r.left (length t.empty) (both r e).0) t.rules e6.1;
@@ -33,15 +37,16 @@ in_range-from_test t e0 =
 
 test-from_in_range : (t : Table) → IsInRange t → is_in_range t ≡ true
 test-from_in_range t h =
-    and_both (length t.first == length t.empty) _ (eq-eqb (length t.first) (length t.empty) h.first_length)
-    (and_both (length t.follow == length t.empty) _ (eq-eqb (length t.follow) (length t.empty) h.follow_length)
-    (and_both (length t.height == length t.empty) _ (eq-eqb (length t.height) (length t.empty) h.height_length)
-    (and_both (length t.rank == length t.empty) _ (eq-eqb (length t.rank) (length t.empty) h.rank_length)
-    (and_both (nat_lt t.start (length t.empty)) _ (lt-ltb t.start (length t.empty) h.start)
-    (and_both (nat_le (length t.rules) 65536) (list_all (is_numbered_rule t) t.rules) (le-leb (length t.rules) 65536 h.few)
+    and_true (length t.first == length t.empty) _ (eq-eqb (length t.first) (length t.empty) h.first_length)
+    (and_true (length t.follow == length t.empty) _ (eq-eqb (length t.follow) (length t.empty) h.follow_length)
+    (and_true (length t.height == length t.empty) _ (eq-eqb (length t.height) (length t.empty) h.height_length)
+    (and_true (length t.rank == length t.empty) _ (eq-eqb (length t.rank) (length t.empty) h.rank_length)
+    (and_true (length t.predictions == length t.empty) _ (eq-eqb (length t.predictions) (length t.empty) h.predictions_length)
+    (and_true (nat_lt t.start (length t.empty)) _ (lt-ltb t.start (length t.empty) h.start)
+    (and_true (nat_le (length t.rules) 65536) (list_all (is_numbered_rule t) t.rules) (le-leb (length t.rules) 65536 h.few)
     (places_all (is_numbered_rule t) t.rules (λ p r g.
-    and_both (nat_lt r.left (length t.empty)) (list_all (is_numbered (length t.empty)) r.right) (lt-ltb r.left (length t.empty) (h.left p r g))
-    (test-from_numbered (length t.empty) r.right (h.right p r g)))))))))
+    and_true (nat_lt r.left (length t.empty)) (list_all (is_numbered (length t.empty)) r.right) (lt-ltb r.left (length t.empty) (h.left p r g))
+    (test-from_numbered (length t.empty) r.right (h.right p r g))))))))))
 
 -- what the second condition says of one production
 record IsClosedRule (t : Table) (r : Rule) : Type 0 where
@@ -51,8 +56,8 @@ record IsClosedRule (t : Table) (r : Rule) : Type 0 where
 
 closed_rule-from_test : (t : Table) (r : Rule) → is_closed_rule t r ≡ true → IsClosedRule t r
 closed_rule-from_test t r e =
-    let a = and_true (not (list_all (may_be_empty t) r.right) || empty_of t r.left) _ e in
-    let b = and_true (all_begin t r.right [] (has (first_of t r.left))) (follows_closed t r.left r.right) a.1 in
+    let a = both_true (not (list_all (may_be_empty t) r.right) || empty_of t r.left) _ e in
+    let b = both_true (all_begin t r.right [] (has (first_of t r.left))) (follows_closed t r.left r.right) a.1 in
     record {
       empty = λ h. where_true (list_all (may_be_empty t) r.right) (empty_of t r.left) a.0 (test-from_empty t r.right h);
       first = λ k h. member-from_has (first_of t r.left) k (all_begin-passes t r.right [] (has (first_of t r.left)) b.0 k h);
@@ -61,16 +66,16 @@ closed_rule-from_test t r e =
 
 test-from_closed_rule : (t : Table) (r : Rule) → IsClosedRule t r → is_closed_rule t r ≡ true
 test-from_closed_rule t r h =
-    and_both (not (list_all (may_be_empty t) r.right) || empty_of t r.left) _
+    and_true (not (list_all (may_be_empty t) r.right) || empty_of t r.left) _
     (true_where (list_all (may_be_empty t) r.right) (empty_of t r.left) (λ e. h.empty (empty-from_test t r.right e)))
-    (and_both (all_begin t r.right [] (has (first_of t r.left))) (follows_closed t r.left r.right)
+    (and_true (all_begin t r.right [] (has (first_of t r.left))) (follows_closed t r.left r.right)
     (passes-all_begin t r.right [] (has (first_of t r.left)) (λ k b. has-from_member (first_of t r.left) k (h.first k b)))
     (test-from_follows t r.left r.right h.follow))
 
 -- the second condition
 closed-from_test : (t : Table) → is_closed t ≡ true → IsClosed t
 closed-from_test t e =
-    let b = and_true (has (follow_of t t.start) 65535) (list_all (is_closed_rule t) t.rules) e in
+    let b = both_true (has (follow_of t t.start) 65535) (list_all (is_closed_rule t) t.rules) e in
     let each = all_places (is_closed_rule t) (IsClosedRule t) (closed_rule-from_test t) t.rules b.1 in
     record {
       end = member-from_has (follow_of t t.start) 65535 b.0;
@@ -81,53 +86,9 @@ closed-from_test t e =
 
 test-from_closed : (t : Table) → IsClosed t → is_closed t ≡ true
 test-from_closed t h =
-    and_both (has (follow_of t t.start) 65535) (list_all (is_closed_rule t) t.rules) (has-from_member (follow_of t t.start) 65535 h.end)
+    and_true (has (follow_of t t.start) 65535) (list_all (is_closed_rule t) t.rules) (has-from_member (follow_of t t.start) 65535 h.end)
     (places_all (is_closed_rule t) t.rules
     (λ p r g. test-from_closed_rule t r (record { empty = h.empty p r g; first = h.first p r g; follow = h.follow p r g })))
-
--- two of these productions for one symbol and look-ahead are one
-AreApart : Table → List Rule → Type 0
-AreApart t rs = (p q : ℕ) (r s : Rule) (k : ℕ) → slice_get rs p ≡ Some r → slice_get rs q ≡ Some s → r.left ≡ s.left → Predicts t r k → Predicts t s k → p ≡ q
-
--- no production further on has the symbol and look-ahead of this one
-apart_later : (t : Table) (r : Rule) (rs : List Rule) → list_all (is_apart_from t r) rs ≡ true
-    → (q : ℕ) (s : Rule) (k : ℕ) → slice_get rs q ≡ Some s → r.left ≡ s.left → Predicts t r k → Predicts t s k → ⊥
-apart_later t r rs e q s k g left h i =
-    apart-from_test t r s k
-    (where_true (r.left == s.left) (is_apart t r s) (all_places (is_apart_from t r) (λ x. is_apart_from t r x ≡ true) (λ x h. h) rs e q s g) (eq-eqb r.left s.left left)) h i
-
-apart-from_tests : (t : Table) (rs : List Rule) → are_apart t rs ≡ true → AreApart t rs
-unfolding AreApart
-apart-from_tests t [] e p q r s k g h left i j = absurd (cc)
-apart-from_tests t (x ∷ rs) e zero zero r s k g h left i j = refl
-apart-from_tests t (x ∷ rs) e zero (suc q) r s k g h left i j =
-    let same : x ≡ r = cc in
-    absurd (apart_later t x rs (and_true (list_all (is_apart_from t x) rs) (are_apart t rs) e).0 q s k h (ap (λ (y : Rule). y.left) same ∙ left)
-    (subst (λ (y : Rule). Predicts t y k) (sym same) i) j)
-apart-from_tests t (x ∷ rs) e (suc p) zero r s k g h left i j =
-    let same : x ≡ s = cc in
-    absurd (apart_later t x rs (and_true (list_all (is_apart_from t x) rs) (are_apart t rs) e).0 p r k g (ap (λ (y : Rule). y.left) same ∙ sym left)
-    (subst (λ (y : Rule). Predicts t y k) (sym same) j) i)
-apart-from_tests t (x ∷ rs) e (suc p) (suc q) r s k g h left i j =
-    ap suc (apart-from_tests t rs (and_true (list_all (is_apart_from t x) rs) (are_apart t rs) e).1 p q r s k g h left i j)
-
-tests-from_apart : (t : Table) (rs : List Rule) → AreApart t rs → are_apart t rs ≡ true
-unfolding AreApart
-tests-from_apart t [] f = refl
-tests-from_apart t (x ∷ rs) f =
-    and_both (list_all (is_apart_from t x) rs) (are_apart t rs)
-    (places_all (is_apart_from t x) rs (λ i s g. true_where (x.left == s.left) (is_apart t x s)
-    (λ e. test-from_apart t x s (λ k h j. let no : 0 ≡ suc i = f 0 (suc i) x s k refl g (eqb-true x.left s.left e) h j in absurd (cc)))))
-    (tests-from_apart t rs (λ p q r s k g h left i j. let more : suc p ≡ suc q = f (suc p) (suc q) r s k g h left i j in cc))
-
--- the third condition
-predictive-from_test : (t : Table) → is_predictive t ≡ true → IsPredictive t
-unfolding AreApart
-predictive-from_test t e = apart-from_tests t t.rules e
-
-test-from_predictive : (t : Table) → IsPredictive t → is_predictive t ≡ true
-unfolding AreApart
-test-from_predictive t h = tests-from_apart t t.rules h
 
 -- a production among these shows that the symbol derives some list
 IsLowered : Table → ℕ → List Rule → Type 0
@@ -138,7 +99,7 @@ unfolding IsLowered
 lowered-from_test t a [] e = absurd (cc)
 lowered-from_test t a (r ∷ rs) e =
     elim (or_true (is_lowering t a r) (list_any (is_lowering t a) rs) e) [
-      | inl h ↦ let b = and_true (r.left == a) (list_all (is_lower t (height_of t a)) r.right) h in
+      | inl h ↦ let b = both_true (r.left == a) (list_all (is_lower t (height_of t a)) r.right) h in
           (0, r, refl, eqb-true r.left a b.0, lower-from_test t (height_of t a) r.right b.1)
       | inr h ↦ let m = lowered-from_test t a rs h in (suc m.0, m.1, m.2, m.3, m.4)
     ]
@@ -149,7 +110,7 @@ test-from_lowered t a [] p r g e l = absurd (cc)
 test-from_lowered t a (x ∷ rs) zero r g e l =
     let same : x ≡ r = cc in
     or_left (is_lowering t a x) (list_any (is_lowering t a) rs)
-    (and_both (x.left == a) (list_all (is_lower t (height_of t a)) x.right) (eq-eqb x.left a (ap (λ (y : Rule). y.left) same ∙ e))
+    (and_true (x.left == a) (list_all (is_lower t (height_of t a)) x.right) (eq-eqb x.left a (ap (λ (y : Rule). y.left) same ∙ e))
     (test-from_lower t (height_of t a) x.right (subst (λ (y : Rule). AllLower t (height_of t a) y.right) (sym same) l)))
 test-from_lowered t a (x ∷ rs) (suc p) r g e l =
     or_right (is_lowering t a x) (list_any (is_lowering t a) rs) (test-from_lowered t a rs p r g e l)
@@ -157,7 +118,7 @@ test-from_lowered t a (x ∷ rs) (suc p) r g e l =
 productive_below : (t : Table) (n : ℕ) → are_productive t n ≡ true → (a : ℕ) → a < n → IsLowered t a t.rules
 productive_below t zero e a h = absurd (omega arith)
 productive_below t (suc n) e a h =
-    let b = and_true (list_any (is_lowering t n) t.rules) (are_productive t n) e in
+    let b = both_true (list_any (is_lowering t n) t.rules) (are_productive t n) e in
     elim (last_or_below a n h) [
       | inl same ↦ lowered-from_test t a t.rules (subst (λ m. list_any (is_lowering t m) t.rules ≡ true) (sym same) b.0)
       | inr below ↦ productive_below t n b.1 a below
@@ -170,7 +131,7 @@ unfolding IsLowered
 below_productive t zero f = refl
 below_productive t (suc n) f =
     let h = f n (omega arith) in
-    and_both (list_any (is_lowering t n) t.rules) (are_productive t n) (test-from_lowered t n t.rules h.0 h.1 h.2 h.3 h.4)
+    and_true (list_any (is_lowering t n) t.rules) (are_productive t n) (test-from_lowered t n t.rules h.0 h.1 h.2 h.3 h.4)
     (below_productive t n (λ a l. f a (omega arith)))
 
 -- the fourth condition
@@ -192,25 +153,26 @@ test-from_ranked_all t h = places_all (is_ranked_rule t) t.rules (λ p r g. test
 -- a table that passes the test is checked; a fixed table is shown checked by `checked_from_test _ refl`
 pub checked_from_test : (t : Table) → is_checked t ≡ true → IsChecked t
 checked_from_test t e0 =
-    let e1 = and_true (is_in_range t) _ e0 in
-    let e2 = and_true (is_closed t) _ e1.1 in
-    let e3 = and_true (is_predictive t) _ e2.1 in
-    let e4 = and_true (is_productive t) (is_ranked t) e3.1 in
+    let e1 = both_true (is_in_range t) _ e0 in
+    let e2 = both_true (is_closed t) _ e1.1 in
+    let e3 = both_true (is_foretold t) _ e2.1 in
+    let e4 = both_true (is_productive t) (is_ranked t) e3.1 in
     record {
       in_range = in_range-from_test t e1.0;
       closed = closed-from_test t e2.0;
-      predictive = predictive-from_test t e3.0;
+      predictive = predictive t (foretold-from_test t e3.0);
       productive = productive-from_test t e4.0;
       ranked = ranked_all-from_test t e4.1;
+      foretold = foretold-from_test t e3.0;
     }
 
 -- a checked table passes the test
 pub test_from_checked : (t : Table) → IsChecked t → is_checked t ≡ true
 test_from_checked t h =
-    and_both (is_in_range t) _ (test-from_in_range t h.in_range)
-    (and_both (is_closed t) _ (test-from_closed t h.closed)
-    (and_both (is_predictive t) _ (test-from_predictive t h.predictive)
-    (and_both (is_productive t) (is_ranked t) (test-from_productive t h.productive) (test-from_ranked_all t h.ranked))))
+    and_true (is_in_range t) _ (test-from_in_range t h.in_range)
+    (and_true (is_closed t) _ (test-from_closed t h.closed)
+    (and_true (is_foretold t) _ (test-from_foretold t h.foretold)
+    (and_true (is_productive t) (is_ranked t) (test-from_productive t h.productive) (test-from_ranked_all t h.ranked))))
 
 -- what a test answers that computes this
 pub checked_exact : (t : Table) (b : Bool) → b ≡ is_checked t → IsTrue b ↔ IsChecked t

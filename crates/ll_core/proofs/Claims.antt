@@ -66,7 +66,8 @@ followed_tasks t left (Inner a ∷ ss) s fc h fs = (
   followed_tasks t left ss s fc.1 h fs,
 )
 
-pub completes_graft : (t : Table) (f : Forest) (ss : List Symbol) (s : List Task) (c : Rest) → IsDerivation t ss f → Completes t s c → Completes t (tasks ss s) (graft f c)
+pub completes_graft : (t : Table) (f : Forest) (ss : List Symbol) (s : List Task) (c : Rest) → IsDerivation t ss f → Completes t s c
+    → Completes t (tasks ss s) (graft f c)
 unfolding graft
 completes_graft t Nothing [] s c d h = h
 completes_graft t Nothing (Terminal k ∷ ss) s c d h = absurd d
@@ -219,7 +220,8 @@ module _ (t : Table) (ok : IsChecked t) where
   may_come (Close' ∷ s) (Below p f c) h = absurd h
   may_come (Close' ∷ s) (Up c) h = may_come s c h
 
-  pub followed_open : (a p : ℕ) (r : Rule) (s : List Task) → slice_get t.rules p ≡ Some r → r.left ≡ a → IsFollowed t (Expand a ∷ s) → IsFollowed t (tasks r.right (Close' ∷ s))
+  pub followed_open : (a p : ℕ) (r : Rule) (s : List Task) → slice_get t.rules p ≡ Some r → r.left ≡ a → IsFollowed t (Expand a ∷ s)
+      → IsFollowed t (tasks r.right (Close' ∷ s))
   followed_open a p r s g e h =
       followed_tasks t r.left r.right (Close' ∷ s) (ok.closed.follow p r g) (λ k m. subst (λ x. IsMember (follow_of t x) k) (sym e) (h.0 k m)) h.1
 
@@ -228,4 +230,5 @@ module _ (t : Table) (ok : IsChecked t) where
   predicted a s c h x =
       subst (λ y. Predicts t x.rule (next_of (tokens_left y))) (sym x.is)
       (begins x.below x.rule.right (IsMember (follow_of t x.rule.left)) (tokens_left x.behind) x.derived
-      (subst (λ y. IsMember (follow_of t y) (next_of (tokens_left x.behind))) (sym x.left) (h.0 (next_of (tokens_left x.behind)) (may_come s x.behind x.completes))))
+      (subst (λ y. IsMember (follow_of t y) (next_of (tokens_left x.behind))) (sym x.left) (h.0 (next_of (tokens_left x.behind))
+      (may_come s x.behind x.completes))))

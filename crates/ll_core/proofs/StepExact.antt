@@ -18,7 +18,8 @@ use Rattle.ll_core.specs.Step.{Stepped, IsExact}
 use Rattle.ll_core.proofs.AtStep.{front_look, shift_front, shift_taken, begun_at}
 
 -- a tree that goes on so is one of tokens that agree with the look
-pub more_of : (t : Table) (ks : List ℕ) (look : Option ℕ) (f : Forest) → GoesOn t ks look f → (more : List ℕ) × IsTree t (ks ++ more) f × Agrees (Some look) more
+pub more_of : (t : Table) (ks : List ℕ) (look : Option ℕ) (f : Forest) → GoesOn t ks look f
+    → (more : List ℕ) × IsTree t (ks ++ more) f × Agrees (Some look) more
 more_of t ks None f g = ([], (g.0, g.1 ∙ sym (append-nil ks)), refl)
 more_of t ks (Some k) f g = (k ∷ g.0, g.1, refl)
 
@@ -49,20 +50,20 @@ told_empty t given shifted s at f tree told =
 
 module _ (t : Table) (ok : IsChecked t) (look : Option ℕ) (stack : List Task) (old new : Work) where
   here : Type 0
-  here = IsAt t old.events.items old.shifted.items (Some look) stack
+  here = IsAt t old.trace.given old.trace.shifted (Some look) stack
 
   told : Type 0
-  told = (f : Forest) × IsTree t old.shifted.items f × (preorder f ≡ old.events.items)
+  told = (f : Forest) × IsTree t old.trace.shifted f × (preorder f ≡ old.trace.given)
 
-  kept_front : new.shifted.items ≡ old.shifted.items → IsAt t new.events.items new.shifted.items (Some look) (reverse new.stack.items)
-      → (f : Forest) → GoesOn t old.shifted.items look f → IsFrontOf new.events.items (preorder f)
+  kept_front : new.trace.shifted ≡ old.trace.shifted → IsAt t new.trace.given new.trace.shifted (Some look) (reverse new.stack.items)
+      → (f : Forest) → GoesOn t old.trace.shifted look f → IsFrontOf new.trace.given (preorder f)
   kept_front e at f g =
-      let m = more_of t old.shifted.items look f g in
-      front_look t new.events.items new.shifted.items look (reverse new.stack.items) at f m.0 (subst (λ ks. IsTree t (ks ++ m.0) f) (sym e) m.1) m.2
+      let m = more_of t old.trace.shifted look f g in
+      front_look t new.trace.given new.trace.shifted look (reverse new.stack.items) at f m.0 (subst (λ ks. IsTree t (ks ++ m.0) f) (sym e) m.1) m.2
 
-  exact_front : (e : Event) → Stepped t look stack old new (Ok e) → (f : Forest) → GoesOn t old.shifted.items look f → IsFrontOf new.events.items (preorder f)
+  exact_front : (e : Event) → Stepped t look stack old new (Ok e) → (f : Forest) → GoesOn t old.trace.shifted look f → IsFrontOf new.trace.given (preorder f)
   exact_front (Open p) h f g = kept_front h.1 h.2 f g
-  exact_front Shift h f g = let m = more_of t old.shifted.items look f g in shift_front t look stack old new h f (m.0, m.1, m.2)
+  exact_front Shift h f g = let m = more_of t old.trace.shifted look f g in shift_front t look stack old new h f (m.0, m.1, m.2)
   exact_front Close h f g = kept_front h.1 h.2 f g
   exact_front End h f g = kept_front h.2 h.3 f g
 
@@ -78,7 +79,8 @@ module _ (t : Table) (ok : IsChecked t) (look : Option ℕ) (stack : List Task) 
   unfolding here told
   exact_ends at result h none whole = ends result h where
     empty : stack ≡ []
-    empty = told_empty t old.events.items old.shifted.items stack (subst (λ l. IsAt t old.events.items old.shifted.items (Some l) stack) none at) whole.0 whole.1 whole.2
+    empty = told_empty t old.trace.given old.trace.shifted stack (subst (λ l. IsAt t old.trace.given old.trace.shifted
+        (Some l) stack) none at) whole.0 whole.1 whole.2
 
     ends : (result : Result Event ParseFault) → Stepped t look stack old new result → result ≡ Ok End
     ends (Ok (Open p)) h = absurd (h.4 empty)
@@ -86,33 +88,33 @@ module _ (t : Table) (ok : IsChecked t) (look : Option ℕ) (stack : List Task) 
     ends (Ok Close) h = absurd (h.4 empty)
     ends (Ok End) h = refl
     ends (Err Syntax) h =
-        absurd (h.2 whole.0 [] (whole.1.0, whole.1.1 ∙ sym (append-nil old.shifted.items)) (subst (λ l. Agrees (Some l) []) (sym none) refl))
+        absurd (h.2 whole.0 [] (whole.1.0, whole.1.1 ∙ sym (append-nil old.trace.shifted)) (subst (λ l. Agrees (Some l) []) (sym none) refl))
     ends (Err NoMemory) h = absurd (h.2 empty)
 
-  exact_syntax : here → (result : Result Event ParseFault) → Stepped t look stack old new result → result ≡ Err Syntax → StopsAt t old.shifted.items look
+  exact_syntax : here → (result : Result Event ParseFault) → Stepped t look stack old new result → result ≡ Err Syntax → StopsAt t old.trace.shifted look
   unfolding here
   exact_syntax at (Ok (Open p)) h e = absurd (cc)
   exact_syntax at (Ok Shift) h e = absurd (cc)
   exact_syntax at (Ok Close) h e = absurd (cc)
   exact_syntax at (Ok End) h e = absurd (cc)
   exact_syntax at (Err Syntax) h e = record {
-    begun = begun_at t ok old.events.items old.shifted.items (Some look) stack at;
-    stopped = λ f g. let m = more_of t old.shifted.items look f g in h.2 f m.0 m.1 m.2;
+    begun = begun_at t ok old.trace.given old.trace.shifted (Some look) stack at;
+    stopped = λ f g. let m = more_of t old.trace.shifted look f g in h.2 f m.0 m.1 m.2;
   }
   exact_syntax at (Err NoMemory) h e = absurd (cc)
 
-  exact_stops : (result : Result Event ParseFault) → Stepped t look stack old new result → StopsAt t old.shifted.items look
+  exact_stops : (result : Result Event ParseFault) → Stepped t look stack old new result → StopsAt t old.trace.shifted look
       → (result ≡ Ok Shift → ⊥) × (result ≡ Ok End → ⊥)
   exact_stops (Ok (Open p)) h s = (λ e. cc, λ e. cc)
   exact_stops (Ok Shift) h s =
       let g = shift_taken t ok look stack old new h in
-      (λ e. s.stopped g.0 (goes_on t old.shifted.items look g.0 g.1.0 g.1.1 g.1.2), λ e. cc)
+      (λ e. s.stopped g.0 (goes_on t old.trace.shifted look g.0 g.1.0 g.1.1 g.1.2), λ e. cc)
   exact_stops (Ok Close) h s = (λ e. cc, λ e. cc)
-  exact_stops (Ok End) h s = (λ e. cc, λ e. s.stopped h.4.0 (subst (λ l. GoesOn t old.shifted.items l h.4.0) (sym h.0) h.4.1))
+  exact_stops (Ok End) h s = (λ e. cc, λ e. s.stopped h.4.0 (subst (λ l. GoesOn t old.trace.shifted l h.4.0) (sym h.0) h.4.1))
   exact_stops (Err f) h s = (λ e. cc, λ e. cc)
 
-  pub exact_step : (result : Result Event ParseFault) → IsAt t old.events.items old.shifted.items (Some look) stack → Stepped t look stack old new result
-      → IsExact t old.events.items old.shifted.items look new.events.items result
+  pub exact_step : (result : Result Event ParseFault) → IsAt t old.trace.given old.trace.shifted (Some look) stack → Stepped t look stack old new result
+      → IsExact t old.trace.given old.trace.shifted look new.trace.given result
   unfolding here told
   exact_step result at h = record {
     front = λ e is. exact_front e (subst (Stepped t look stack old new) is h);

@@ -9,8 +9,9 @@ use Rattle.ll_core.specs.declared.grammar.Symbol.{Symbol}
 use Rattle.ll_core.specs.declared.grammar.Symbol.TheVariants.{Terminal, Inner}
 use Rattle.ll_core.specs.Table.{Rule, Table}
 use Rattle.ll_core.specs.Checked.{empty_of, first_of, follow_of, height_of, rank_of, AllEmpty, Begins, Predicts, FollowsClosed, AllLower, RankedBelow, AreNumbered}
-use Rattle.ll_core.specs.Test.{has, begins_with, is_predicted, all_begin, is_numbered, may_be_empty, follows_closed, is_apart, is_lower, ranked_below}
-use Rattle.ll_core.proofs.Lists.{and_true, and_both, or_true, or_left, or_right, where_true, true_where, not_true, true_not}
+use Rattle.ll_core.specs.Test.{has, begins_with, is_predicted, all_begin, is_numbered, may_be_empty, follows_closed, is_lower, ranked_below}
+use Rattle.linker_base.proofs.Cases.{both_true, and_true}
+use Rattle.ll_core.proofs.Lists.{or_true, or_left, or_right, where_true, true_where}
 
 -- equality of numbers is exact
 nat_exact : IsExact (λ (x y : ℕ). x == y)
@@ -22,15 +23,15 @@ member-from_has xs k e = test_member (λ (x y : ℕ). x == y) nat_exact xs k e
 pub has-from_member : (xs : List ℕ) (k : ℕ) → IsMember xs k → has xs k ≡ true
 has-from_member xs k m = member_test (λ (x y : ℕ). x == y) nat_exact xs k m
 
--- a test that all numbers pass holds of each member
-pub each_member : (test : ℕ → Bool) (xs : List ℕ) (k : ℕ) → list_all test xs ≡ true → IsMember xs k → test k ≡ true
+-- a test that all pass holds of each member
+pub each_member : {A : Type 0} (test : A → Bool) (xs : List A) (k : A) → list_all test xs ≡ true → IsMember xs k → test k ≡ true
 each_member test [] k e m = absurd m
-each_member test (x ∷ xs) k e (inl h) = ap test (sym h) ∙ (and_true (test x) (list_all test xs) e).0
-each_member test (x ∷ xs) k e (inr m) = each_member test xs k (and_true (test x) (list_all test xs) e).1 m
+each_member test (x ∷ xs) k e (inl h) = ap test (sym h) ∙ (both_true (test x) (list_all test xs) e).0
+each_member test (x ∷ xs) k e (inr m) = each_member test xs k (both_true (test x) (list_all test xs) e).1 m
 
-pub member_each : (test : ℕ → Bool) (xs : List ℕ) → ((k : ℕ) → IsMember xs k → test k ≡ true) → list_all test xs ≡ true
+pub member_each : {A : Type 0} (test : A → Bool) (xs : List A) → ((k : A) → IsMember xs k → test k ≡ true) → list_all test xs ≡ true
 member_each test [] f = refl
-member_each test (x ∷ xs) f = and_both (test x) (list_all test xs) (f x (inl refl)) (member_each test xs (λ k m. f k (inr m)))
+member_each test (x ∷ xs) f = and_true (test x) (list_all test xs) (f x (inl refl)) (member_each test xs (λ k m. f k (inr m)))
 
 -- what may begin symbols may begin them however more may stand behind them
 pub begins-mono : (t : Table) (ss : List Symbol) (P Q : ℕ → Type 0) (k : ℕ) → (P k → Q k) → Begins t ss P k → Begins t ss Q k
@@ -45,7 +46,7 @@ begins-from_test t (Terminal j ∷ ss) b k e = eqb-true k j e
 begins-from_test t (Inner a ∷ ss) b k e =
     elim (or_true (has (first_of t a) k) (empty_of t a && begins_with t ss b k) e) [
       | inl h ↦ inl (member-from_has (first_of t a) k h)
-      | inr h ↦ let both = and_true (empty_of t a) (begins_with t ss b k) h in inr (both.0, begins-from_test t ss b k both.1)
+      | inr h ↦ let both = both_true (empty_of t a) (begins_with t ss b k) h in inr (both.0, begins-from_test t ss b k both.1)
     ]
 
 test-from_begins : (t : Table) (ss : List Symbol) (b : Bool) (k : ℕ) (P : ℕ → Type 0) → (P k → b ≡ true) → Begins t ss P k → begins_with t ss b k ≡ true
@@ -54,7 +55,8 @@ test-from_begins t (Terminal j ∷ ss) b k P f h = eq-eqb k j h
 test-from_begins t (Inner a ∷ ss) b k P f (inl h) =
     or_left (has (first_of t a) k) (empty_of t a && begins_with t ss b k) (has-from_member (first_of t a) k h)
 test-from_begins t (Inner a ∷ ss) b k P f (inr h) =
-    or_right (has (first_of t a) k) (empty_of t a && begins_with t ss b k) (and_both (empty_of t a) (begins_with t ss b k) h.0 (test-from_begins t ss b k P f h.1))
+    or_right (has (first_of t a) k) (empty_of t a && begins_with t ss b k) (and_true (empty_of t a) (begins_with t ss b k) h.0
+    (test-from_begins t ss b k P f h.1))
 
 pub predicts-from_test : (t : Table) (r : Rule) (k : ℕ) → is_predicted t r k ≡ true → Predicts t r k
 predicts-from_test t r k e =
@@ -71,48 +73,49 @@ pub all_begin-passes : (t : Table) (ss : List Symbol) (behind : List ℕ) (test 
 all_begin-passes t [] behind test e k b = each_member test behind k e b
 all_begin-passes t (Terminal j ∷ ss) behind test e k b = ap test b ∙ e
 all_begin-passes t (Inner a ∷ ss) behind test e k (inl m) =
-    each_member test (first_of t a) k (and_true (list_all test (first_of t a)) (not (empty_of t a) || all_begin t ss behind test) e).0 m
+    each_member test (first_of t a) k (both_true (list_all test (first_of t a)) (not (empty_of t a) || all_begin t ss behind test) e).0 m
 all_begin-passes t (Inner a ∷ ss) behind test e k (inr h) =
     all_begin-passes t ss behind test
-    (where_true (empty_of t a) (all_begin t ss behind test) (and_true (list_all test (first_of t a)) (not (empty_of t a) || all_begin t ss behind test) e).1 h.0) k h.1
+    (where_true (empty_of t a) (all_begin t ss behind test) (both_true (list_all test (first_of t a)) (not
+    (empty_of t a) || all_begin t ss behind test) e).1 h.0) k h.1
 
 pub passes-all_begin : (t : Table) (ss : List Symbol) (behind : List ℕ) (test : ℕ → Bool)
     → ((k : ℕ) → Begins t ss (IsMember behind) k → test k ≡ true) → all_begin t ss behind test ≡ true
 passes-all_begin t [] behind test f = member_each test behind f
 passes-all_begin t (Terminal j ∷ ss) behind test f = f j refl
 passes-all_begin t (Inner a ∷ ss) behind test f =
-    and_both (list_all test (first_of t a)) (not (empty_of t a) || all_begin t ss behind test) (member_each test (first_of t a) (λ k m. f k (inl m)))
+    and_true (list_all test (first_of t a)) (not (empty_of t a) || all_begin t ss behind test) (member_each test (first_of t a) (λ k m. f k (inl m)))
     (true_where (empty_of t a) (all_begin t ss behind test) (λ e. passes-all_begin t ss behind test (λ k b. f k (inr (e, b)))))
 
 pub numbered-from_test : (count : ℕ) (ss : List Symbol) → list_all (is_numbered count) ss ≡ true → AreNumbered count ss
 numbered-from_test count [] e = tt
 numbered-from_test count (Terminal k ∷ ss) e =
-    let b = and_true (nat_lt k 65535) (list_all (is_numbered count) ss) e in (ltb-true k 65535 b.0, numbered-from_test count ss b.1)
+    let b = both_true (nat_lt k 65535) (list_all (is_numbered count) ss) e in (ltb-true k 65535 b.0, numbered-from_test count ss b.1)
 numbered-from_test count (Inner a ∷ ss) e =
-    let b = and_true (nat_lt a count) (list_all (is_numbered count) ss) e in (ltb-true a count b.0, numbered-from_test count ss b.1)
+    let b = both_true (nat_lt a count) (list_all (is_numbered count) ss) e in (ltb-true a count b.0, numbered-from_test count ss b.1)
 
 pub test-from_numbered : (count : ℕ) (ss : List Symbol) → AreNumbered count ss → list_all (is_numbered count) ss ≡ true
 test-from_numbered count [] h = refl
 test-from_numbered count (Terminal k ∷ ss) h =
-    and_both (nat_lt k 65535) (list_all (is_numbered count) ss) (lt-ltb k 65535 h.0) (test-from_numbered count ss h.1)
+    and_true (nat_lt k 65535) (list_all (is_numbered count) ss) (lt-ltb k 65535 h.0) (test-from_numbered count ss h.1)
 test-from_numbered count (Inner a ∷ ss) h =
-    and_both (nat_lt a count) (list_all (is_numbered count) ss) (lt-ltb a count h.0) (test-from_numbered count ss h.1)
+    and_true (nat_lt a count) (list_all (is_numbered count) ss) (lt-ltb a count h.0) (test-from_numbered count ss h.1)
 
 pub empty-from_test : (t : Table) (ss : List Symbol) → list_all (may_be_empty t) ss ≡ true → AllEmpty t ss
 empty-from_test t [] e = tt
 empty-from_test t (Terminal k ∷ ss) e = let f : false ≡ true = e in absurd (cc)
-empty-from_test t (Inner a ∷ ss) e = let b = and_true (empty_of t a) (list_all (may_be_empty t) ss) e in (b.0, empty-from_test t ss b.1)
+empty-from_test t (Inner a ∷ ss) e = let b = both_true (empty_of t a) (list_all (may_be_empty t) ss) e in (b.0, empty-from_test t ss b.1)
 
 pub test-from_empty : (t : Table) (ss : List Symbol) → AllEmpty t ss → list_all (may_be_empty t) ss ≡ true
 test-from_empty t [] h = refl
 test-from_empty t (Terminal k ∷ ss) h = absurd h
-test-from_empty t (Inner a ∷ ss) h = and_both (empty_of t a) (list_all (may_be_empty t) ss) h.0 (test-from_empty t ss h.1)
+test-from_empty t (Inner a ∷ ss) h = and_true (empty_of t a) (list_all (may_be_empty t) ss) h.0 (test-from_empty t ss h.1)
 
 pub follows-from_test : (t : Table) (left : ℕ) (ss : List Symbol) → follows_closed t left ss ≡ true → FollowsClosed t left ss
 follows-from_test t left [] e = tt
 follows-from_test t left (Terminal k ∷ ss) e = follows-from_test t left ss e
 follows-from_test t left (Inner a ∷ ss) e =
-    let b = and_true (all_begin t ss (follow_of t left) (has (follow_of t a))) (follows_closed t left ss) e in (
+    let b = both_true (all_begin t ss (follow_of t left) (has (follow_of t a))) (follows_closed t left ss) e in (
       λ k h. member-from_has (follow_of t a) k (all_begin-passes t ss (follow_of t left) (has (follow_of t a)) b.0 k h),
       follows-from_test t left ss b.1,
     )
@@ -121,39 +124,32 @@ pub test-from_follows : (t : Table) (left : ℕ) (ss : List Symbol) → FollowsC
 test-from_follows t left [] h = refl
 test-from_follows t left (Terminal k ∷ ss) h = test-from_follows t left ss h
 test-from_follows t left (Inner a ∷ ss) h =
-    and_both (all_begin t ss (follow_of t left) (has (follow_of t a))) (follows_closed t left ss)
+    and_true (all_begin t ss (follow_of t left) (has (follow_of t a))) (follows_closed t left ss)
     (passes-all_begin t ss (follow_of t left) (has (follow_of t a)) (λ k b. has-from_member (follow_of t a) k (h.0 k b))) (test-from_follows t left ss h.1)
-
-pub apart-from_test : (t : Table) (r s : Rule) (k : ℕ) → is_apart t r s ≡ true → Predicts t r k → Predicts t s k → ⊥
-apart-from_test t r s k e h i =
-    not_true (is_predicted t s k) (all_begin-passes t r.right (follow_of t r.left) (λ j. not (is_predicted t s j)) e k h) (test-from_predicts t s k i)
-
-pub test-from_apart : (t : Table) (r s : Rule) → ((k : ℕ) → Predicts t r k → Predicts t s k → ⊥) → is_apart t r s ≡ true
-test-from_apart t r s f =
-    passes-all_begin t r.right (follow_of t r.left) (λ j. not (is_predicted t s j)) (λ k h. true_not (is_predicted t s k) (λ i. f k h (predicts-from_test t s k i)))
 
 pub lower-from_test : (t : Table) (height : ℕ) (ss : List Symbol) → list_all (is_lower t height) ss ≡ true → AllLower t height ss
 lower-from_test t height [] e = tt
 lower-from_test t height (Terminal k ∷ ss) e = lower-from_test t height ss e
 lower-from_test t height (Inner a ∷ ss) e =
-    let b = and_true (nat_lt (height_of t a) height) (list_all (is_lower t height) ss) e in (ltb-true (height_of t a) height b.0, lower-from_test t height ss b.1)
+    let b = both_true (nat_lt (height_of t a) height) (list_all (is_lower t height) ss) e in
+    (ltb-true (height_of t a) height b.0, lower-from_test t height ss b.1)
 
 pub test-from_lower : (t : Table) (height : ℕ) (ss : List Symbol) → AllLower t height ss → list_all (is_lower t height) ss ≡ true
 test-from_lower t height [] h = refl
 test-from_lower t height (Terminal k ∷ ss) h = test-from_lower t height ss h
 test-from_lower t height (Inner a ∷ ss) h =
-    and_both (nat_lt (height_of t a) height) (list_all (is_lower t height) ss) (lt-ltb (height_of t a) height h.0) (test-from_lower t height ss h.1)
+    and_true (nat_lt (height_of t a) height) (list_all (is_lower t height) ss) (lt-ltb (height_of t a) height h.0) (test-from_lower t height ss h.1)
 
 pub ranked-from_test : (t : Table) (rank : ℕ) (ss : List Symbol) → ranked_below t rank ss ≡ true → RankedBelow t rank ss
 ranked-from_test t rank [] e = tt
 ranked-from_test t rank (Terminal k ∷ ss) e = tt
 ranked-from_test t rank (Inner a ∷ ss) e =
-    let b = and_true (nat_lt (rank_of t a) rank) (not (empty_of t a) || ranked_below t rank ss) e in
+    let b = both_true (nat_lt (rank_of t a) rank) (not (empty_of t a) || ranked_below t rank ss) e in
     (ltb-true (rank_of t a) rank b.0, λ h. ranked-from_test t rank ss (where_true (empty_of t a) (ranked_below t rank ss) b.1 h))
 
 pub test-from_ranked : (t : Table) (rank : ℕ) (ss : List Symbol) → RankedBelow t rank ss → ranked_below t rank ss ≡ true
 test-from_ranked t rank [] h = refl
 test-from_ranked t rank (Terminal k ∷ ss) h = refl
 test-from_ranked t rank (Inner a ∷ ss) h =
-    and_both (nat_lt (rank_of t a) rank) (not (empty_of t a) || ranked_below t rank ss) (lt-ltb (rank_of t a) rank h.0)
+    and_true (nat_lt (rank_of t a) rank) (not (empty_of t a) || ranked_below t rank ss) (lt-ltb (rank_of t a) rank h.0)
     (true_where (empty_of t a) (ranked_below t rank ss) (λ e. test-from_ranked t rank ss (h.1 e)))

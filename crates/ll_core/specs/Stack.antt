@@ -118,9 +118,10 @@ effort t (Match k ∷ s) = 0
 effort t (Expand a ∷ s) = 2 ^ (widest t.rules * (rank_of t a + 1)) + cond (empty_of t a) (effort t s) 0
 effort t (Close' ∷ s) = 1 + effort t s
 
--- what a parser keeps of its stack: the tokens that were shifted and the stack stand for the same trees, what may follow
--- each symbol is claimed to follow it, and the numbers are in range
-pub record IsAt (t : Table) (given : List Event) (shifted : List ℕ) (ahead : Option (Option ℕ)) (stack : List Task) : Type 0 where
+-- what a parser keeps of its stack: the tokens that were shifted and the stack stand for the same trees, what may
+-- follow each symbol is claimed to follow it, and the numbers are in range
+pub record IsAt (t : Table) (given : List Event) (shifted : List ℕ) (ahead : Option (Option ℕ))
+    (stack : List Task) : Type 0 where
   pub sound : IsSound t given shifted stack
   pub complete : IsComplete t given shifted ahead stack
   pub followed : IsFollowed t stack

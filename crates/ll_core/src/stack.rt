@@ -2,7 +2,8 @@ ghost use Rattle.std.specs.Prelude.{◌≡◌, ◌∷◌, [], reverse, OnOk};
 ghost use Rattle.ll_core.specs.Stack.{tasks};
 ghost use Rattle.ll_core.specs.declared.stack.Task.TheVariants.{Close as CloseTask};
 
-use crate::{Event, ParseFault, Predictor, Symbol};
+use crate::trace::Trace;
+use crate::{Event, Grammar, ParseFault, Symbol};
 use linker_base::NoMemory;
 use std::alloc::Global;
 
@@ -28,7 +29,8 @@ fn task_of(symbol: Symbol) -> Task
 
 /// Puts a right side on the stack, its first symbol on top, and under it the task to close.
 fn push_right(stack: &mut Vec<Task>, right: &[Symbol]) -> Result<(), NoMemory>
-    ensures { OnOk result (reverse stack.new.items ≡ tasks right.now (CloseTask ∷ reverse stack.old.items)) }
+    ensures { OnOk result
+        (reverse stack.new.items ≡ tasks right.now (CloseTask ∷ reverse stack.old.items)) }
 {
     stack.push(Task::Close)?;
     let mut left = right.len();
@@ -39,42 +41,41 @@ fn push_right(stack: &mut Vec<Task>, right: &[Symbol]) -> Result<(), NoMemory>
     Ok(())
 }
 
-/// The lists of a parser. The last task is the first to do.
+/// What a parser has still to do, the last task first, and what it told and took.
 #[derive(Drop)]
 pub struct Work {
     pub stack: Vec<Task>,
-    pub events: Vec<Event>,
-    pub shifted: Vec<u16>,
+    pub trace: Trace,
 }
 
 impl Work {
     ghost use Rattle.std.specs.Prelude.{Some, None, IfOk};
     ghost use Rattle.ll_core.specs.declared.stack.Task.TheVariants.{Match, Expand, Close as Closing};
     ghost use Rattle.ll_core.specs.Checked.{IsChecked};
-    ghost use Rattle.ll_core.specs.Stack.{IsAt};
-    ghost use Rattle.ll_core.specs.Step.{Stepped, IsExact};
+    ghost use Rattle.ll_core.specs.Table.{table_of};
+    ghost use Rattle.ll_core.specs.Step.{StandsAt, Stepped, IsExact};
 
     /// The lists at the start of a text.
     pub fn new(alloc: Global, start: u16) -> Result<Work, NoMemory>
         ensures stack { IfOk result (λ w. reverse w.stack.items ≡ Expand start ∷ []) }
-        ensures events { IfOk result (λ w. w.events.items ≡ []) }
-        ensures shifted { IfOk result (λ w. w.shifted.items ≡ []) }
+        ensures given { IfOk result (λ w. w.trace.given ≡ []) }
+        ensures shifted { IfOk result (λ w. w.trace.shifted ≡ []) }
     {
         let mut stack = Vec::new(alloc);
         stack.push(Task::Expand(start))?;
         Ok(Work {
             stack,
-            events: Vec::new(alloc),
-            shifted: Vec::new(alloc),
+            trace: Trace::new(),
         })
     }
 
     /// Where the stack is empty.
-    fn finish(&mut self, predictor: &Predictor, look: Option<u16>) -> Result<Event, ParseFault>
-        requires checked { IsChecked predictor.now }
+    #[inline(always)]
+    fn finish(&mut self, grammar: &Grammar, look: Option<u16>) -> Result<Event, ParseFault>
+        requires checked { IsChecked (table_of grammar.now) }
         requires empty { self.old.stack.items ≡ [] }
-        requires at { IsAt predictor.now self.old.events.items self.old.shifted.items (Some look) [] }
-        ensures { Stepped predictor.now look [] self.old self.new result }
+        requires at { StandsAt (table_of grammar.now) look [] self.old }
+        ensures { Stepped (table_of grammar.now) look [] self.old self.new result }
     {
         match look {
             None => Ok(Event::End),
@@ -83,15 +84,18 @@ impl Work {
     }
 
     /// Where this terminal was on top of the stack.
+    #[inline(always)]
     fn shift(
         &mut self,
-        predictor: &Predictor,
+        grammar: &Grammar,
         terminal: u16,
         look: Option<u16>,
     ) -> Result<Event, ParseFault>
-        requires checked { IsChecked predictor.now }
-        requires at { IsAt predictor.now self.old.events.items self.old.shifted.items (Some look) (Match terminal ∷ reverse self.old.stack.items) }
-        ensures { Stepped predictor.now look (Match terminal ∷ reverse self.old.stack.items) self.old self.new result }
+        requires checked { IsChecked (table_of grammar.now) }
+        requires at { StandsAt (table_of grammar.now) look
+            (Match terminal ∷ reverse self.old.stack.items) self.old }
+        ensures { Stepped (table_of grammar.now) look
+            (Match terminal ∷ reverse self.old.stack.items) self.old self.new result }
     {
         let Some(token) = look else {
             return Err(ParseFault::Syntax);
@@ -99,79 +103,78 @@ impl Work {
         if token != terminal {
             return Err(ParseFault::Syntax);
         }
-        match self.events.push(Event::Shift) {
-            Err(_) => Err(ParseFault::NoMemory),
-            Ok(()) => match self.shifted.push(token) {
-                Ok(()) => Ok(Event::Shift),
-                Err(_) => {
-                    let _ = self.events.pop();
-                    Err(ParseFault::NoMemory)
-                }
-            },
-        }
+        self.trace = self.trace.told(&Event::Shift).took(&token);
+        Ok(Event::Shift)
     }
 
     /// Where the end of a production was on top of the stack.
-    fn close(&mut self, predictor: &Predictor, look: Option<u16>) -> Result<Event, ParseFault>
-        requires checked { IsChecked predictor.now }
-        requires at { IsAt predictor.now self.old.events.items self.old.shifted.items (Some look) (Closing ∷ reverse self.old.stack.items) }
-        ensures { Stepped predictor.now look (Closing ∷ reverse self.old.stack.items) self.old self.new result }
+    #[inline(always)]
+    fn close(&mut self, grammar: &Grammar, look: Option<u16>) -> Result<Event, ParseFault>
+        requires checked { IsChecked (table_of grammar.now) }
+        requires at { StandsAt (table_of grammar.now) look
+            (Closing ∷ reverse self.old.stack.items) self.old }
+        ensures { Stepped (table_of grammar.now) look (Closing ∷ reverse self.old.stack.items)
+            self.old self.new result }
     {
-        match self.events.push(Event::Close) {
-            Ok(()) => Ok(Event::Close),
-            Err(_) => Err(ParseFault::NoMemory),
-        }
+        self.trace = self.trace.told(&Event::Close);
+        Ok(Event::Close)
     }
 
-    /// Where this symbol was on top of the stack.
+    /// Where this symbol was on top of the stack. It stays a call, so that the other tasks are done in
+    /// their caller's loop.
+    #[inline(never)]
     fn open(
         &mut self,
-        predictor: &Predictor,
+        grammar: &Grammar,
         symbol: u16,
         look: Option<u16>,
     ) -> Result<Event, ParseFault>
-        requires checked { IsChecked predictor.now }
-        requires at { IsAt predictor.now self.old.events.items self.old.shifted.items (Some look) (Expand symbol ∷ reverse self.old.stack.items) }
-        ensures { Stepped predictor.now look (Expand symbol ∷ reverse self.old.stack.items) self.old self.new result }
+        requires checked { IsChecked (table_of grammar.now) }
+        requires at { StandsAt (table_of grammar.now) look
+            (Expand symbol ∷ reverse self.old.stack.items) self.old }
+        ensures { Stepped (table_of grammar.now) look
+            (Expand symbol ∷ reverse self.old.stack.items) self.old self.new result }
     {
         let code = look.unwrap_or(u16::MAX);
-        let Some(number) = predictor.predicted(symbol, code) else {
+        let Some(number) = grammar.predicted_for(symbol, code) else {
             return Err(ParseFault::Syntax);
         };
-        let right = predictor.right_of(number);
-        match self.events.push(Event::Open(number)) {
+        match push_right(&mut self.stack, grammar.right_side(number)) {
+            Ok(()) => {
+                self.trace = self.trace.told(&Event::Open(number));
+                Ok(Event::Open(number))
+            }
             Err(_) => Err(ParseFault::NoMemory),
-            Ok(()) => match push_right(&mut self.stack, right) {
-                Ok(()) => Ok(Event::Open(number)),
-                Err(_) => {
-                    let _ = self.events.pop();
-                    Err(ParseFault::NoMemory)
-                }
-            },
         }
     }
 
     /// Does the task on top of the stack.
-    fn do_task(&mut self, predictor: &Predictor, look: Option<u16>) -> Result<Event, ParseFault>
-        requires checked { IsChecked predictor.now }
-        requires at { IsAt predictor.now self.old.events.items self.old.shifted.items (Some look) (reverse self.old.stack.items) }
-        ensures { Stepped predictor.now look (reverse self.old.stack.items) self.old self.new result }
+    #[inline(always)]
+    fn do_task(&mut self, grammar: &Grammar, look: Option<u16>) -> Result<Event, ParseFault>
+        requires checked { IsChecked (table_of grammar.now) }
+        requires at { StandsAt (table_of grammar.now) look (reverse self.old.stack.items) self.old }
+        ensures { Stepped (table_of grammar.now) look (reverse self.old.stack.items) self.old
+            self.new result }
     {
         match self.stack.pop() {
-            None => self.finish(predictor, look),
-            Some(Task::Match(terminal)) => self.shift(predictor, terminal, look),
-            Some(Task::Expand(symbol)) => self.open(predictor, symbol, look),
-            Some(Task::Close) => self.close(predictor, look),
+            None => self.finish(grammar, look),
+            Some(Task::Match(terminal)) => self.shift(grammar, terminal, look),
+            Some(Task::Expand(symbol)) => self.open(grammar, symbol, look),
+            Some(Task::Close) => self.close(grammar, look),
         }
     }
 
     /// The next event, with all that callers may know of it.
-    pub fn step(&mut self, predictor: &Predictor, look: Option<u16>) -> Result<Event, ParseFault>
-        requires checked { IsChecked predictor.now }
-        requires at { IsAt predictor.now self.old.events.items self.old.shifted.items (Some look) (reverse self.old.stack.items) }
-        ensures stepped { Stepped predictor.now look (reverse self.old.stack.items) self.old self.new result }
-        ensures exact { IsExact predictor.now self.old.events.items self.old.shifted.items look self.new.events.items result }
+    #[inline(always)]
+    pub fn step(&mut self, grammar: &Grammar, look: Option<u16>) -> Result<Event, ParseFault>
+        requires checked { IsChecked (table_of grammar.now) }
+        requires at { StandsAt (table_of grammar.now) look (reverse self.old.stack.items) self.old }
+        ensures stepped { Stepped (table_of grammar.now) look (reverse self.old.stack.items)
+            self.old self.new result }
+        ensures exact { IsExact (table_of grammar.now) self.old.trace.given
+            self.old.trace.shifted look
+            self.new.trace.given result }
     {
-        self.do_task(predictor, look)
+        self.do_task(grammar, look)
     }
 }

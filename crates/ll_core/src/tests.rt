@@ -1,7 +1,25 @@
 use crate::Symbol::{Inner, Terminal};
-use crate::{Event, Grammar, ParseFault, Parser, Production, Refusal, Span, Symbol, parse};
+use crate::{
+    Event, Grammar, ParseFault, Parser, Prediction, Production, Refusal, Span, Symbol, parse,
+};
 use std::alloc::Global;
 use std::process::Abort;
+
+macro_rules! productions {
+    ($($left:literal: $from:literal..$upto:literal,)*) => {
+        [$(Production { left: $left, right: Span { from: $from, upto: $upto } }),*]
+    };
+}
+
+macro_rules! spans {
+    ($($from:literal..$upto:literal,)*) => { [$(Span { from: $from, upto: $upto }),*] };
+}
+
+macro_rules! predictions {
+    ($($look:literal: $production:literal,)*) => {
+        [$(Prediction { look: $look, production: $production }),*]
+    };
+}
 
 const PLUS: u16 = 0;
 
@@ -35,64 +53,27 @@ static SYMBOLS: [Symbol; 14] = [
     Terminal(NUMBER),
 ];
 
-static PRODUCTIONS: [Production; 8] = [
-    Production {
-        left: 0,
-        right: Span { from: 0, upto: 2 },
-    },
-    Production {
-        left: 1,
-        right: Span { from: 2, upto: 5 },
-    },
-    Production {
-        left: 1,
-        right: Span { from: 5, upto: 5 },
-    },
-    Production {
-        left: 2,
-        right: Span { from: 5, upto: 7 },
-    },
-    Production {
-        left: 3,
-        right: Span { from: 7, upto: 10 },
-    },
-    Production {
-        left: 3,
-        right: Span { from: 10, upto: 10 },
-    },
-    Production {
-        left: 4,
-        right: Span { from: 10, upto: 13 },
-    },
-    Production {
-        left: 4,
-        right: Span { from: 13, upto: 14 },
-    },
-];
+static PRODUCTIONS: [Production; 8] = productions! {
+    0: 0..2, 1: 2..5, 1: 5..5, 2: 5..7, 3: 7..10, 3: 10..10, 4: 10..13, 4: 13..14,
+};
 
 static TERMINALS: [u16; 9] = [OPEN, NUMBER, PLUS, TIMES, CLOSE, END, PLUS, CLOSE, END];
 
 static EMPTY: [bool; 5] = [false, true, false, true, false];
 
-static FIRST: [Span; 5] = [
-    Span { from: 0, upto: 2 },
-    Span { from: 2, upto: 3 },
-    Span { from: 0, upto: 2 },
-    Span { from: 3, upto: 4 },
-    Span { from: 0, upto: 2 },
-];
+static FIRST: [Span; 5] = spans! { 0..2, 2..3, 0..2, 3..4, 0..2, };
 
-static FOLLOW: [Span; 5] = [
-    Span { from: 4, upto: 6 },
-    Span { from: 4, upto: 6 },
-    Span { from: 6, upto: 9 },
-    Span { from: 6, upto: 9 },
-    Span { from: 2, upto: 6 },
-];
+static FOLLOW: [Span; 5] = spans! { 4..6, 4..6, 6..9, 6..9, 2..6, };
 
 static HEIGHT: [u16; 5] = [2, 0, 1, 0, 0];
 
 static RANK: [u16; 5] = [2, 0, 1, 0, 0];
+
+static PREDICTED: [Span; 5] = spans! { 0..2, 2..5, 5..7, 7..11, 11..13, };
+
+static PREDICTIONS: [Prediction; 13] = predictions! {
+    2: 0, 4: 0, 0: 1, 3: 2, 65535: 2, 2: 3, 4: 3, 0: 5, 1: 4, 3: 5, 65535: 5, 2: 6, 4: 7,
+};
 
 fn arithmetic() -> Grammar {
     Grammar {
@@ -105,147 +86,20 @@ fn arithmetic() -> Grammar {
         terminals: &TERMINALS,
         height: &HEIGHT,
         rank: &RANK,
+        predicted: &PREDICTED,
+        predictions: &PREDICTIONS,
     }
 }
 
-fn parsed(rt: &impl Abort, alloc: Global, tokens: &[u16]) -> Result<Vec<Event>, Refusal> {
-    let grammar = arithmetic();
-    assert!(rt; grammar.check());
-    parse(alloc, grammar, tokens)
-}
+// Start = 'a', which is checked, and a wrong number in each of its claims.
+static ONE: [Production; 1] = productions! { 0: 0..1, };
 
-#[test]
-fn a_number_and_a_sum_of_a_product(rt: HostRuntime) {
-    use Event::{Close, Open, Shift};
-    let number = [
-        Open(0),
-        Open(3),
-        Open(7),
-        Shift,
-        Close,
-        Open(5),
-        Close,
-        Close,
-        Open(2),
-        Close,
-        Close,
-    ];
-    match parsed(&rt, rt.alloc(), &[NUMBER]) {
-        Ok(events) => assert!(rt; events.as_slice() == number.as_slice()),
-        Err(_) => assert!(rt; false),
-    }
-    let sum = [
-        Open(0),
-        Open(3),
-        Open(7),
-        Shift,
-        Close,
-        Open(5),
-        Close,
-        Close,
-        Open(1),
-        Shift,
-        Open(3),
-        Open(7),
-        Shift,
-        Close,
-        Open(4),
-        Shift,
-        Open(7),
-        Shift,
-        Close,
-        Open(5),
-        Close,
-        Close,
-        Close,
-        Open(2),
-        Close,
-        Close,
-        Close,
-    ];
-    match parsed(&rt, rt.alloc(), &[NUMBER, PLUS, NUMBER, TIMES, NUMBER]) {
-        Ok(events) => assert!(rt; events.as_slice() == sum.as_slice()),
-        Err(_) => assert!(rt; false),
-    }
-}
+static TWICE: [Production; 2] = productions! { 0: 0..1, 0: 0..1, };
 
-fn refused_at(rt: &impl Abort, alloc: Global, tokens: &[u16]) -> Option<usize> {
-    match parsed(rt, alloc, tokens) {
-        Err(Refusal::Syntax(place)) => Some(place),
-        Ok(_) => None,
-        Err(Refusal::NoMemory) => None,
-    }
-}
+// Start = Start 'a' | 'b', and Start = 'a' Start.
+static RECURSIVE: [Production; 2] = productions! { 0: 1..3, 0: 3..4, };
 
-#[test]
-fn the_first_wrong_token_is_named(rt: HostRuntime) {
-    assert!(rt; refused_at(&rt, rt.alloc(), &[]) == Some(0));
-    assert!(rt; refused_at(&rt, rt.alloc(), &[PLUS, NUMBER]) == Some(0));
-    assert!(rt; refused_at(&rt, rt.alloc(), &[END]) == Some(0));
-    assert!(rt; refused_at(&rt, rt.alloc(), &[NUMBER, NUMBER, PLUS]) == Some(1));
-    assert!(rt; refused_at(&rt, rt.alloc(), &[NUMBER, PLUS, TIMES, NUMBER]) == Some(2));
-    assert!(rt; refused_at(&rt, rt.alloc(), &[OPEN, NUMBER]) == Some(2));
-    assert!(rt; refused_at(&rt, rt.alloc(), &[NUMBER, END]) == Some(1));
-    assert!(rt; refused_at(&rt, rt.alloc(), &[NUMBER]) == None);
-}
-
-#[test]
-fn brackets_nest_64_deep(rt: HostRuntime) {
-    let mut tokens = [CLOSE; 129];
-    for i in 0..64 {
-        tokens[i] = OPEN;
-    }
-    tokens[64] = NUMBER;
-    match parsed(&rt, rt.alloc(), &tokens) {
-        Ok(events) => {
-            let shifts = events.iter().filter(|e| **e == Event::Shift).count();
-            assert!(rt; shifts == 129);
-        }
-        Err(_) => assert!(rt; false),
-    }
-    assert!(rt; refused_at(&rt, rt.alloc(), &[OPEN; 64]) == Some(64));
-}
-
-#[test]
-fn answers_repeat(rt: HostRuntime) {
-    let grammar = arithmetic();
-    assert!(rt; grammar.check());
-    let Ok(mut parser) = Parser::new(rt.alloc(), grammar) else {
-        assert!(rt; false);
-        return;
-    };
-    assert!(rt; parser.next(Some(CLOSE)) == Err(ParseFault::Syntax));
-    assert!(rt; parser.next(Some(NUMBER)) == Err(ParseFault::Syntax));
-    assert!(rt; parser.next(None) == Err(ParseFault::Syntax));
-}
-
-// Start = 'a' | 'a'.
-static CONFLICT: [Production; 2] = [
-    Production {
-        left: 0,
-        right: Span { from: 0, upto: 1 },
-    },
-    Production {
-        left: 0,
-        right: Span { from: 0, upto: 1 },
-    },
-];
-// Start = Start 'a' | 'b', with the symbols 'a' and 'b' as terminals 0 and 1.
-static RECURSIVE: [Production; 2] = [
-    Production {
-        left: 0,
-        right: Span { from: 1, upto: 3 },
-    },
-    Production {
-        left: 0,
-        right: Span { from: 3, upto: 4 },
-    },
-];
-// Start = 'a' Start.
-static ENDLESS: [Production; 1] = [Production {
-    left: 0,
-    right: Span { from: 0, upto: 2 },
-}];
+static ENDLESS: [Production; 1] = productions! { 0: 0..2, };
 
 static SMALL_SYMBOLS: [Symbol; 4] = [Terminal(0), Inner(0), Terminal(0), Terminal(1)];
 
@@ -253,13 +107,23 @@ static SMALL_TERMINALS: [u16; 4] = [0, END, 0, 1];
 
 static SMALL_EMPTY: [bool; 1] = [false];
 
-static SMALL_FIRST: [Span; 1] = [Span { from: 0, upto: 1 }];
+static SMALL_FIRST: [Span; 1] = spans! { 0..1, };
 
-static SMALL_FOLLOW: [Span; 1] = [Span { from: 1, upto: 3 }];
+static SMALL_FOLLOW: [Span; 1] = spans! { 1..3, };
 
 static SMALL_NUMBERS: [u16; 1] = [1];
 
-static SECOND_FIRST: [Span; 1] = [Span { from: 3, upto: 4 }];
+static SMALL_PREDICTIONS: [Prediction; 1] = predictions! { 0: 0, };
+
+static TWO_PREDICTIONS: [Prediction; 2] = predictions! { 0: 0, 0: 1, };
+
+static OTHER_PREDICTIONS: [Prediction; 13] = predictions! {
+    2: 0, 4: 0, 0: 1, 3: 2, 65535: 2, 2: 3, 4: 3, 0: 4, 1: 4, 3: 5, 65535: 5, 2: 6, 4: 7,
+};
+
+static LAST_FIRST: [Span; 1] = spans! { 3..4, };
+
+static FAR_SYMBOLS: [Symbol; 4] = [Terminal(END), Inner(0), Terminal(0), Terminal(1)];
 
 fn small(productions: &'static [Production]) -> Grammar {
     Grammar {
@@ -272,49 +136,107 @@ fn small(productions: &'static [Production]) -> Grammar {
         terminals: &SMALL_TERMINALS,
         height: &SMALL_NUMBERS,
         rank: &SMALL_NUMBERS,
+        predicted: &SMALL_FIRST,
+        predictions: &SMALL_PREDICTIONS,
     }
 }
 
-// Start = 'a', which is checked.
-static ONE: [Production; 1] = [Production {
-    left: 0,
-    right: Span { from: 0, upto: 1 },
-}];
-
-static EMPTY_FIRST: [Span; 5] = [
-    Span { from: 0, upto: 2 },
-    Span { from: 2, upto: 2 },
-    Span { from: 0, upto: 2 },
-    Span { from: 3, upto: 4 },
-    Span { from: 0, upto: 2 },
-];
-
-static FAR_SYMBOLS: [Symbol; 4] = [Terminal(END), Inner(0), Terminal(0), Terminal(1)];
-
 #[test]
-fn wrong_tables_are_refused(rt: HostRuntime) {
-    assert!(rt; arithmetic().check());
-    assert!(rt; small(&ONE).check());
-    assert!(rt; !small(&CONFLICT).check());
+fn tables_are_checked_or_refused(rt: HostRuntime) {
+    let twice = Grammar {
+        predictions: &TWO_PREDICTIONS,
+        ..small(&TWICE)
+    };
     let recursive = Grammar {
-        first: &SECOND_FIRST,
+        first: &LAST_FIRST,
         ..small(&RECURSIVE)
     };
-    assert!(rt; !recursive.check());
-    assert!(rt; !small(&ENDLESS).check());
-    let small_first = Grammar {
-        first: &EMPTY_FIRST,
-        ..arithmetic()
-    };
-    assert!(rt; !small_first.check());
-    let far_terminal = Grammar {
+    let far = Grammar {
         symbols: &FAR_SYMBOLS,
         ..small(&ONE)
     };
-    assert!(rt; !far_terminal.check());
-    let far_start = Grammar {
+    let other = Grammar {
+        predictions: &OTHER_PREDICTIONS,
+        ..arithmetic()
+    };
+    let start = Grammar {
         start: 5,
         ..arithmetic()
     };
-    assert!(rt; !far_start.check());
+    let cases = [
+        (arithmetic(), true),
+        (small(&ONE), true),
+        (small(&TWICE), false),
+        (twice, false),
+        (recursive, false),
+        (small(&ENDLESS), false),
+        (far, false),
+        (other, false),
+        (start, false),
+    ];
+    for (grammar, is_checked) in cases {
+        assert!(rt; grammar.check() == is_checked);
+    }
+}
+
+fn place_in(rt: &impl Abort, alloc: Global, tokens: &[u16]) -> Option<usize> {
+    let grammar = arithmetic();
+    assert!(rt; grammar.check());
+    match parse(alloc, grammar, tokens) {
+        Ok(_) => None,
+        Err(Refusal::Syntax(place)) => Some(place),
+        Err(Refusal::NoMemory) => {
+            assert!(rt; false);
+            None
+        }
+    }
+}
+
+#[test]
+fn the_first_wrong_token_is_named(rt: HostRuntime) {
+    let cases: [(&[u16], Option<usize>); 10] = [
+        (&[NUMBER], None),
+        (&[NUMBER, PLUS, OPEN, NUMBER, CLOSE, TIMES, NUMBER], None),
+        (&[], Some(0)),
+        (&[PLUS, NUMBER], Some(0)),
+        (&[END], Some(0)),
+        (&[NUMBER, NUMBER, PLUS], Some(1)),
+        (&[NUMBER, PLUS, TIMES, NUMBER], Some(2)),
+        (&[OPEN, NUMBER], Some(2)),
+        (&[NUMBER, END], Some(1)),
+        (&[OPEN; 64], Some(64)),
+    ];
+    for (tokens, place) in cases {
+        assert!(rt; place_in(&rt, rt.alloc(), tokens) == place);
+    }
+}
+
+#[test]
+fn events_come_in_preorder_and_refusals_repeat(rt: HostRuntime) {
+    let grammar = arithmetic();
+    assert!(rt; grammar.check());
+    let events = [
+        Event::Open(0),
+        Event::Open(3),
+        Event::Open(7),
+        Event::Shift,
+        Event::Close,
+        Event::Open(5),
+        Event::Close,
+        Event::Close,
+        Event::Open(2),
+        Event::Close,
+        Event::Close,
+    ];
+    match parse(rt.alloc(), grammar, &[NUMBER]) {
+        Ok(told) => assert!(rt; told.as_slice() == events.as_slice()),
+        Err(_) => assert!(rt; false),
+    }
+    let Ok(mut parser) = Parser::new(rt.alloc(), grammar) else {
+        assert!(rt; false);
+        return;
+    };
+    assert!(rt; parser.next(Some(CLOSE)) == Err(ParseFault::Syntax));
+    assert!(rt; parser.next(Some(NUMBER)) == Err(ParseFault::Syntax));
+    assert!(rt; parser.next(None) == Err(ParseFault::Syntax));
 }

@@ -9,4 +9,5 @@ invariant-loop-place l = record {
   shifted : l.parser.shifted ≡ take l.place l.tokens;
   ahead : l.parser.ahead ≡ None;
   fault : l.parser.fault ≡ None;
+  kept : l.events.items ≡ l.parser.given;
 }

@@ -1,0 +1,3 @@
+pub mod Terms
+pub mod Rules
+pub mod Grammar
