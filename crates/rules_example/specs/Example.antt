@@ -94,7 +94,7 @@ regular_first count own (p ∷ ps) = regular_then (greater count p)
     (λ v. cond (nat_eq v 0) (first_answer count own ps) (done v)) (regular_greater count p)
     (λ v. regular_cond (nat_eq v 0) (first_answer count own ps) (done v) (regular_first count own ps) (regular_done v))
 
-regular_rule : (count : ℕ) (k : Number) → IsRegular (rule count k)
+pub regular_rule : (count : ℕ) (k : Number) → IsRegular (rule count k)
 regular_rule count k = regular_then (look k) (λ row. first_answer count k row) (regular_look k)
     (λ row. regular_first count k row)
 

@@ -1,4 +1,6 @@
-ghost use Rattle.std.specs.Prelude.{◌≡◌, ◌++◌, ◌∷◌, [], length, IfOk, OnOk, OnErr};
+ghost use Rattle.std.specs.Prelude.{◌≡◌, ◌<◌, ◌++◌, ◌∷◌, [], length, slice_set, IfOk, OnOk, OnErr};
+ghost use Rattle.linker_base.specs.Members.{SameMembers};
+ghost use Rattle.demand_core.specs.Again.{HoldsAll};
 ghost use Rattle.demand_core.specs.Computed.{ordered_step};
 ghost use Rattle.demand_core.specs.Computation.{read_step};
 ghost use Rattle.demand_core.specs.Least.{HoldsLeast, KeepsLeast};
@@ -25,7 +27,8 @@ pub struct Pair {
 /// A row of pairs for each number. Contracts see the rows, in order.
 #[derive(Drop)]
 pub struct Example {
-    rows: Listing<Listing<Pair>>,
+    alloc: Global,
+    rows: Vec<Listing<Pair>>,
 }
 
 impl Model for Example {
@@ -34,7 +37,7 @@ impl Model for Example {
 
     ghost Value = { List (List Pair) };
 
-    ghost view = { λ t. t.rows };
+    ghost view = { λ t. t.rows.items };
 }
 
 impl Example {
@@ -43,7 +46,8 @@ impl Example {
         ensures { result ≡ [] }
     {
         Example {
-            rows: Listing::new(alloc),
+            alloc,
+            rows: Vec::new(alloc),
         }
     }
 
@@ -52,13 +56,20 @@ impl Example {
         ensures ok { OnOk result (self.new ≡ self.old ++ row ∷ []) }
         ensures err { OnErr result (self.new ≡ self.old) }
     {
-        self.rows.push(row)
+        self.rows.push(row)?;
+        Ok(())
     }
 
-    /// Decides the answer of each number that has a row.
+    /// How many numbers have a row.
+    pub fn len(&self) -> usize
+        ensures { result ≡ length self.now }
+    {
+        self.rows.len()
+    }
+
+    /// Decides the answer of each number that has a row, by rounds.
     pub fn solve<L: Ledger>(
         &self,
-        alloc: Global,
         steps: &mut Steps<L>,
     ) -> Result<Engine<Number, usize, Number>, NoMemory>
         ensures least { IfOk result
@@ -68,17 +79,77 @@ impl Example {
         ensures asked { IfOk result
             (λ engine. RoseAlike 0 engine.asked (L.count steps.old) (L.count steps.new)) }
     {
-        let keys = self.keys(alloc)?;
-        rounds(alloc, self, keys.as_slice(), steps)
+        let keys = self.keys()?;
+        rounds(self.alloc, self, keys.as_slice(), steps)
+    }
+
+    /// Decides the answer of each number that has a row on demand, beginning with the first number
+    /// or with the last one.
+    pub fn settle<L: Ledger>(
+        &self,
+        backward: bool,
+        steps: &mut Steps<L>,
+    ) -> Result<Engine<Number, usize, Number>, NoMemory>
+        ensures { IfOk result
+            (λ engine. HoldsAll same_number (example_meaning self.now) engine) }
+    {
+        let keys = self.keys_in(backward)?;
+        let mut engine = Engine::new(self.alloc);
+        engine.settle(self, keys.as_slice(), steps)?;
+        Ok(engine)
+    }
+
+    /// Changes the row of a number, forgets what looked at it, and decides that again. Gives the
+    /// keys that were forgotten.
+    pub fn change<L: Ledger>(
+        &mut self,
+        engine: &mut Engine<Number, usize, Number>,
+        place: Number,
+        row: Listing<Pair>,
+        steps: &mut Steps<L>,
+    ) -> Result<Keys<Number>, NoMemory>
+        requires place { place.0 < length self.old }
+        requires holds { HoldsAll same_number (example_meaning self.old) engine.old }
+        ensures row { self.new ≡ slice_set self.old place.0 row }
+        ensures holds { OnOk result
+            (HoldsAll same_number (example_meaning self.new) engine.new) }
+    {
+        self.rows[place.0] = row;
+        let gone = engine.forget(&[Fact::Outer(place)])?;
+        engine.settle(self, gone.as_slice(), steps)?;
+        Ok(gone)
+    }
+
+    /// The numbers that have a row, in order or backward.
+    fn keys_in(&self, backward: bool) -> Result<Keys<Number>, NoMemory>
+        ensures { IfOk result (λ keys. SameMembers keys (numbers (length self.now))) }
+    {
+        if backward {
+            self.keys_backward()
+        } else {
+            self.keys()
+        }
     }
 
     /// The numbers that have a row, in order.
-    fn keys(&self, alloc: Global) -> Result<Keys<Number>, NoMemory>
+    fn keys(&self) -> Result<Keys<Number>, NoMemory>
         ensures { IfOk result (λ keys. keys ≡ numbers (length self.now)) }
     {
-        let mut keys = Keys::new(alloc);
-        for place in 0..self.rows.as_slice().len() {
+        let mut keys = Keys::new(self.alloc);
+        for place in 0..self.rows.len() {
             keys.push(Number(place))?;
+        }
+        Ok(keys)
+    }
+
+    /// The numbers that have a row, the last one first.
+    fn keys_backward(&self) -> Result<Keys<Number>, NoMemory>
+        ensures { IfOk result (λ keys. SameMembers keys (numbers (length self.now))) }
+    {
+        let mut keys = Keys::new(self.alloc);
+        let count = self.len();
+        for place in 0..count {
+            keys.push(Number(count - 1 - place))?;
         }
         Ok(keys)
     }
@@ -95,7 +166,7 @@ impl Example {
         ensures looks { OnOk result (looks.new
             ≡ looks.old ++ (answer_of (length self.now) key (over self.now table.now)).looks) }
     {
-        if key.0 < self.rows.as_slice().len() {
+        if key.0 < self.rows.len() {
             looks.add(Fact::Key(key))?;
             Ok(table.get(key).copied())
         } else {
@@ -186,93 +257,4 @@ impl Rules<Number, usize, Number> for Example {
 }
 
 #[cfg(test)]
-mod tests {
-    use super::{Example, Pair};
-    use crate::number::Number;
-    use demand_core::{Answer, Counted, Steps};
-    use linker_base::{Listing, NoMemory};
-    use std::alloc::Global;
-
-    /// Adds a row of which each pair is given by its two places.
-    fn add(example: &mut Example, alloc: Global, pairs: &[(usize, usize)]) -> Result<(), NoMemory> {
-        let mut row = Listing::new(alloc);
-        for (left, right) in pairs {
-            row.push(Pair {
-                left: Number(*left),
-                right: Number(*right),
-            })?;
-        }
-        example.push(row)
-    }
-
-    /// What the example's engine says of a number: its answer, or the number that is kept of it
-    /// plus 100.
-    fn told(answer: Answer<'_, Number, usize>) -> Option<usize> {
-        match answer {
-            Answer::Open => None,
-            Answer::Decided(value) => Some(*value),
-            Answer::Cyclic(on) => Some(on.0.saturating_add(100)),
-        }
-    }
-
-    #[test]
-    fn rows_are_decided_as_by_hand(rt: HostRuntime) {
-        let alloc = rt.alloc();
-        let mut example = Example::new(alloc);
-        let rows: [&[(usize, usize)]; 11] = [
-            // 0 has its own answer, and 1, which names it, too, since that is 0; 2 names 3
-            &[],
-            &[(0, 0)],
-            &[(3, 3)],
-            &[],
-            // 4 reads two at once
-            &[(2, 3)],
-            // a circle of three
-            &[(6, 6)],
-            &[(7, 7)],
-            &[(5, 5)],
-            // a circle of two with a way out: 8 has an answer from 3 before 9 is reached
-            &[(0, 3), (9, 9)],
-            &[(8, 8)],
-            // 10 waits on the circle and on itself, in that order, whichever it names first
-            &[(10, 6)],
-        ];
-        for row in rows {
-            assert!(rt; add(&mut example, alloc, row).is_ok());
-        }
-        let expected = [0, 1, 3, 3, 3, 106, 107, 105, 3, 3, 106];
-        let mut steps = Steps::new(Counted::new());
-        match example.solve(alloc, &mut steps) {
-            Err(_) => assert!(rt; false),
-            Ok(engine) => {
-                for (place, value) in expected.iter().enumerate() {
-                    assert!(rt; told(engine.answer(Number(place))) == Some(*value));
-                }
-                assert!(rt; told(engine.answer(Number(11))).is_none());
-            }
-        }
-        // 11 in the first round, then the 6 that waited, then the 4 that are left, and each of
-        // these once more
-        assert!(rt; steps.ledger().count() == 25);
-    }
-
-    #[test]
-    fn a_chain_is_decided_from_its_end(rt: HostRuntime) {
-        let alloc = rt.alloc();
-        let mut example = Example::new(alloc);
-        for next in 1..1_000 {
-            assert!(rt; add(&mut example, alloc, &[(next, next)]).is_ok());
-        }
-        assert!(rt; add(&mut example, alloc, &[]).is_ok());
-        let mut steps = Steps::new(Counted::new());
-        match example.solve(alloc, &mut steps) {
-            Err(_) => assert!(rt; false),
-            Ok(engine) => {
-                assert!(rt; told(engine.answer(Number(0))) == Some(999));
-                assert!(rt; told(engine.answer(Number(999))) == Some(999));
-            }
-        }
-        // one fewer in each round
-        assert!(rt; steps.ledger().count() == 500_500);
-    }
-}
+mod tests;

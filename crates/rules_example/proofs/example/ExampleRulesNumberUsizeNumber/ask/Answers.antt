@@ -16,7 +16,7 @@ returns-then-value-ne0-clause-looks g c =
     c.as_slice-pair-items.result.now (row_of c.args.self.now c.args.key) _ c.in_ok-value.field-0
     c.args.looks.now c.add.new.self c.loop-pair.looks c.read_pair.new.looks (Outer c.args.key)
     (same_row c.as_slice-rows.result.now c.args.self.now c.args.key.0 c.index-rows-key.result c.as_slice-pair-items.result.now
-    c.as_slice-pair-items.ensures c.index-rows-key.is c.if-key-rows.true (c.as_slice-rows.ensures ∙ c.self.view_is)) c.loop-pair-test.true
+    c.as_slice-pair-items.ensures c.index-rows-key.is c.if-key-rows.true (c.as_slice-rows.ensures.value ∙ c.self.view_is)) c.loop-pair-test.true
     c.in_ok-add.ensures.ok c.loop-pair.invariant.looks c.in_ok-value.ensures.looks c.in_ok-value.ensures.answer
     (subst IsFinal (sym c.in-Done.is) not_zero)
 
@@ -26,6 +26,6 @@ returns-in-Waits-clause-looks g c =
     c.as_slice-pair-items.result.now (row_of c.args.self.now c.args.key) _ c.in_ok-value.field-0
     c.args.looks.now c.add.new.self c.loop-pair.looks c.read_pair.new.looks (Outer c.args.key)
     (same_row c.as_slice-rows.result.now c.args.self.now c.args.key.0 c.index-rows-key.result c.as_slice-pair-items.result.now
-    c.as_slice-pair-items.ensures c.index-rows-key.is c.if-key-rows.true (c.as_slice-rows.ensures ∙ c.self.view_is)) c.loop-pair-test.true
+    c.as_slice-pair-items.ensures c.index-rows-key.is c.if-key-rows.true (c.as_slice-rows.ensures.value ∙ c.self.view_is)) c.loop-pair-test.true
     c.in_ok-add.ensures.ok c.loop-pair.invariant.looks c.in_ok-value.ensures.looks c.in_ok-value.ensures.answer
     (subst IsFinal (sym c.in-Waits.is) tt)
