@@ -235,9 +235,12 @@ rank_up files x y r f does is rank =
 
 -- the new file among all
 rank_new : (files : List StoredFile) (x : StoredFile) → HasRank (files ++ x ∷ []) (rank_of files x) (length files)
-rank_new files x =
-    (x, get_seam files [] x, where_more (λ z. stands_before z x) files x
-    ∙ ap (λ b. rank_of files x + from_bool b) (before_itself x.library x.name) ∙ omega arith)
+rank_new files x = (
+  x,
+  get_seam files [] x,
+  where_more (λ z. stands_before z x) files x
+      ∙ ap (λ b. rank_of files x + from_bool b) (before_itself x.library x.name) ∙ omega arith,
+)
 
 -- the ranks after one file more, which is put in at its own rank
 pub ranked_more : (files : List StoredFile) (ranks : List ℕ) (x : StoredFile) → (IsMember (map (λ y. y.name) files) x.name → ⊥) → AreRanked files ranks

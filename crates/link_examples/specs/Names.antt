@@ -67,7 +67,7 @@ circular_first_asking = refl
 -- over the least linking it looks at these
 pub circular_looks : sees circular (reference 1 1)
     (of_file 1
-        ∷ [])
+    ∷ [])
     ≡ true
 unfolding least stage gather names_from visible_from
 circular_looks = refl
@@ -122,8 +122,8 @@ names_in_a_circle_first_asking = refl
 -- over the least linking it looks at these
 pub names_in_a_circle_looks : sees names_in_a_circle (reference 0 1)
     (of_file 0
-        ∷ of_key 0 0
-        ∷ [])
+    ∷ of_key 0 0
+    ∷ [])
     ≡ true
 unfolding least stage gather names_from visible_from
 names_in_a_circle_looks = refl
@@ -165,8 +165,8 @@ mended_first_asking = refl
 -- over the least linking it looks at these
 pub mended_looks : sees mended (reference 0 1)
     (of_file 0
-        ∷ of_key 0 0
-        ∷ [])
+    ∷ of_key 0 0
+    ∷ [])
     ≡ true
 unfolding least stage gather names_from visible_from
 mended_looks = refl
@@ -229,9 +229,9 @@ ambiguous_first_asking = refl
 -- over the least linking it looks at these
 pub ambiguous_looks : sees ambiguous (reference 0 5)
     (of_file 0
-        ∷ of_key 0 3
-        ∷ of_key 0 4
-        ∷ [])
+    ∷ of_key 0 3
+    ∷ of_key 0 4
+    ∷ [])
     ≡ true
 unfolding least stage gather names_from visible_from
 ambiguous_looks = refl
@@ -287,8 +287,8 @@ hidden_first_asking = refl
 -- over the least linking it looks at these
 pub hidden_looks : sees hidden (reference 0 3)
     (of_file 0
-        ∷ of_key 0 2
-        ∷ [])
+    ∷ of_key 0 2
+    ∷ [])
     ≡ true
 unfolding least stage gather names_from visible_from
 hidden_looks = refl
@@ -330,9 +330,9 @@ private_member_first_asking = refl
 -- over the least linking it looks at these
 pub private_member_looks : sees private_member (reference 0 1)
     (of_file 0
-        ∷ of_key 0 0
-        ∷ of_name (codes "x")
-        ∷ [])
+    ∷ of_key 0 0
+    ∷ of_name (codes "x")
+    ∷ [])
     ≡ true
 unfolding least stage gather names_from visible_from
 private_member_looks = refl
@@ -385,11 +385,11 @@ elsewhere_first_asking = refl
 -- over the least linking it looks at these
 pub elsewhere_looks : sees elsewhere (reference 2 0)
     (of_file 0
-        ∷ of_file 1
-        ∷ of_file 2
-        ∷ of_key 1 0
-        ∷ of_name (codes "x")
-        ∷ [])
+    ∷ of_file 1
+    ∷ of_file 2
+    ∷ of_key 1 0
+    ∷ of_name (codes "x")
+    ∷ [])
     ≡ true
 unfolding least stage gather names_from visible_from
 elsewhere_looks = refl
@@ -441,8 +441,8 @@ effective_first_asking = refl
 -- over the least linking it looks at these
 pub effective_looks : sees effective (reference 0 1)
     (of_file 0
-        ∷ of_key 0 0
-        ∷ [])
+    ∷ of_key 0 0
+    ∷ [])
     ≡ true
 unfolding least stage gather names_from visible_from
 effective_looks = refl
@@ -495,10 +495,10 @@ aliases_first_asking = refl
 -- over the least linking it looks at these
 pub aliases_looks : sees aliases (reference 1 0)
     (of_file 0
-        ∷ of_file 1
-        ∷ of_key 0 0
-        ∷ of_name (codes "a")
-        ∷ [])
+    ∷ of_file 1
+    ∷ of_key 0 0
+    ∷ of_name (codes "a")
+    ∷ [])
     ≡ true
 unfolding least stage gather names_from visible_from
 aliases_looks = refl
@@ -552,12 +552,12 @@ several_first_asking = refl
 -- over the least linking it looks at these
 pub several_looks : sees several (reference 2 0)
     (of_file 1
-        ∷ of_file 2
-        ∷ of_file 0
-        ∷ of_key 1 0
-        ∷ of_key 0 0
-        ∷ of_name (codes "x")
-        ∷ [])
+    ∷ of_file 2
+    ∷ of_file 0
+    ∷ of_key 1 0
+    ∷ of_key 0 0
+    ∷ of_name (codes "x")
+    ∷ [])
     ≡ true
 unfolding least stage gather names_from visible_from
 several_looks = refl
@@ -623,14 +623,14 @@ met_later_first_asking = refl
 -- over the least linking it looks at these
 pub met_later_looks : sees met_later (reference 2 1)
     (of_file 0
-        ∷ of_file 1
-        ∷ of_file 2
-        ∷ of_key 0 0
-        ∷ of_key 1 0
-        ∷ of_key 1 1
-        ∷ of_key 2 0
-        ∷ of_name (codes "x")
-        ∷ [])
+    ∷ of_file 1
+    ∷ of_file 2
+    ∷ of_key 0 0
+    ∷ of_key 1 0
+    ∷ of_key 1 1
+    ∷ of_key 2 0
+    ∷ of_name (codes "x")
+    ∷ [])
     ≡ true
 unfolding least stage gather names_from visible_from
 met_later_looks = refl
@@ -686,7 +686,7 @@ inner_first_asking = refl
 -- over the least linking it looks at these
 pub inner_looks : sees inner (reference 0 0)
     (of_file 0
-        ∷ [])
+    ∷ [])
     ≡ true
 unfolding least stage gather names_from visible_from
 inner_looks = refl

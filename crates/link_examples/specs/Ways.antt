@@ -76,9 +76,9 @@ redefined_first_asking = refl
 -- over the least linking it looks at these
 pub redefined_looks : sees redefined (reference 0 3)
     (of_file 0
-        ∷ of_key 0 0
-        ∷ of_key 0 2
-        ∷ [])
+    ∷ of_key 0 0
+    ∷ of_key 0 2
+    ∷ [])
     ≡ true
 unfolding least stage gather names_from visible_from
 redefined_looks = refl
@@ -140,12 +140,12 @@ diamond_first_asking = refl
 -- over the least linking it looks at these
 pub diamond_looks : sees diamond (reference 0 5)
     (of_file 0
-        ∷ of_key 0 0
-        ∷ of_key 0 1
-        ∷ of_key 0 2
-        ∷ of_key 0 3
-        ∷ of_key 0 4
-        ∷ [])
+    ∷ of_key 0 0
+    ∷ of_key 0 1
+    ∷ of_key 0 2
+    ∷ of_key 0 3
+    ∷ of_key 0 4
+    ∷ [])
     ≡ true
 unfolding least stage gather names_from visible_from
 diamond_looks = refl
@@ -202,7 +202,7 @@ private_redefinition_first_asking = refl
 -- over the least linking it looks at these
 pub private_redefinition_looks : sees private_redefinition (reference 0 4)
     (of_file 0
-        ∷ [])
+    ∷ [])
     ≡ true
 unfolding least stage gather names_from visible_from
 private_redefinition_looks = refl
@@ -261,7 +261,7 @@ mutual_imports_first_asking = refl
 -- over the least linking it looks at these
 pub mutual_imports_looks : sees mutual_imports (reference 0 1)
     (of_file 0
-        ∷ [])
+    ∷ [])
     ≡ true
 unfolding least stage gather names_from visible_from
 mutual_imports_looks = refl
@@ -322,10 +322,10 @@ import_order_first_asking = refl
 -- over the least linking it looks at these
 pub import_order_looks : sees import_order (reference 0 5)
     (of_file 0
-        ∷ of_key 0 3
-        ∷ of_key 0 4
-        ∷ of_name (codes "x")
-        ∷ [])
+    ∷ of_key 0 3
+    ∷ of_key 0 4
+    ∷ of_name (codes "x")
+    ∷ [])
     ≡ true
 unfolding least stage gather names_from visible_from
 import_order_looks = refl
@@ -391,8 +391,8 @@ recursive_first_asking = refl
 -- over the least linking it looks at these
 pub recursive_looks : sees recursive (reference 0 4)
     (of_file 0
-        ∷ of_key 0 3
-        ∷ [])
+    ∷ of_key 0 3
+    ∷ [])
     ≡ true
 unfolding least stage gather names_from visible_from
 recursive_looks = refl
@@ -445,9 +445,9 @@ all_members_first_asking = refl
 -- over the least linking it looks at these
 pub all_members_looks : sees all_members (reference 0 3)
     (of_file 0
-        ∷ of_key 0 2
-        ∷ of_name (codes "x")
-        ∷ [])
+    ∷ of_key 0 2
+    ∷ of_name (codes "x")
+    ∷ [])
     ≡ true
 unfolding least stage gather names_from visible_from
 all_members_looks = refl
@@ -503,10 +503,10 @@ by_name_first_asking = refl
 -- over the least linking it looks at these
 pub by_name_looks : sees by_name (reference 1 0)
     (of_file 2
-        ∷ of_file 1
-        ∷ of_file 0
-        ∷ of_name (codes "A")
-        ∷ [])
+    ∷ of_file 1
+    ∷ of_file 0
+    ∷ of_name (codes "A")
+    ∷ [])
     ≡ true
 unfolding least stage gather names_from visible_from
 by_name_looks = refl
@@ -554,9 +554,9 @@ chained_first_asking = refl
 -- over the least linking it looks at these
 pub chained_looks : sees chained (reference 0 2)
     (of_file 0
-        ∷ of_key 0 0
-        ∷ of_key 0 1
-        ∷ [])
+    ∷ of_key 0 0
+    ∷ of_key 0 1
+    ∷ [])
     ≡ true
 unfolding least stage gather names_from visible_from
 chained_looks = refl
@@ -611,9 +611,9 @@ based_first_asking = refl
 -- over the least linking it looks at these
 pub based_looks : sees based (reference 1 1)
     (of_file 1
-        ∷ of_file 0
-        ∷ of_name (codes "Parts")
-        ∷ [])
+    ∷ of_file 0
+    ∷ of_name (codes "Parts")
+    ∷ [])
     ≡ true
 unfolding least stage gather names_from visible_from
 based_looks = refl
@@ -658,9 +658,9 @@ comes_first_asking = refl
 -- over the least linking it looks at these
 pub comes_looks : sees comes (reference 1 0)
     (of_file 0
-        ∷ of_file 1
-        ∷ of_name (codes "A")
-        ∷ [])
+    ∷ of_file 1
+    ∷ of_name (codes "A")
+    ∷ [])
     ≡ true
 unfolding least stage gather names_from visible_from
 comes_looks = refl
@@ -696,8 +696,8 @@ goes_first_asking = refl
 -- over the least linking it looks at these
 pub goes_looks : sees goes (reference 1 0)
     (of_file 1
-        ∷ of_name (codes "A")
-        ∷ [])
+    ∷ of_name (codes "A")
+    ∷ [])
     ≡ true
 unfolding least stage gather names_from visible_from
 goes_looks = refl

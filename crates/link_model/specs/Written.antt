@@ -49,8 +49,14 @@ alias owner r x = record { owner = owner; target = Alias r; short = None; name =
 
 -- an import by the reference of that number, of all or of one
 abbrev pub brings : Visibility → ℕ → ℕ → Bool → Import
-brings v owner r star = record { owner = owner; reference = r; star = star; recursive = false; all = false;
-    visibility = v }
+brings v owner r star = record {
+  owner = owner;
+  reference = r;
+  star = star;
+  recursive = false;
+  all = false;
+  visibility = v;
+}
 
 -- the model at that file number, without places
 abbrev pub data_of : ℕ → List Element → List Member → List Reference → List Import → Data

@@ -12,6 +12,7 @@ mod base_tests;
 mod book_tests;
 #[cfg(test)]
 mod drawing;
+pub mod library_sketches;
 #[cfg(test)]
 mod models;
 #[cfg(test)]
@@ -20,6 +21,5 @@ mod name_tests;
 mod reader_tests;
 #[cfg(test)]
 mod reading;
-pub mod library_sketches;
 pub mod sketch;
 pub mod sketches;
