@@ -1,9 +1,9 @@
 #!/usr/bin/env python3
 """Writes the worked rows of links as models that the checker evaluates: crates/link_examples/specs/{Names,Ways}.antt.
 
-    tools/make_link_rows.py [--oracle FOLDER]
+    tools/make_link_rows.py [--check] [--oracle FOLDER]
 
-FOLDER holds the package `oracle`, an independent plain implementation of the rules (../shared beside the repository). A row is a
+With --check nothing is written, and what a file would change fails. FOLDER holds the package `oracle`, an independent plain implementation of the rules (../shared beside the repository). A row is a
 small book of texts. Its models, its least linking, what its cyclic references wait on, what names are found, and for one
 reference what its asking waits on over the empty table and what it looks at over the least linking, are the oracle's; the
 checker evaluates the definitions and compares. Running the script again changes nothing.
@@ -13,7 +13,7 @@ import re
 import sys
 
 TOP = os.path.dirname(os.path.dirname(os.path.abspath(__file__)))
-ORACLE = sys.argv[2] if sys.argv[1:2] == ["--oracle"] else os.path.join(os.path.dirname(TOP), "shared")
+ORACLE = sys.argv[-1] if "--oracle" in sys.argv else os.path.join(os.path.dirname(TOP), "shared")
 sys.path.insert(0, ORACLE)
 from oracle.linking import Files, Linker, Links  # noqa: E402
 from oracle.model import build  # noqa: E402
@@ -178,7 +178,7 @@ def row(name, comment, texts, finds=(), over=()):
     out.append(claim("%s_first_asking" % name, "(asked %s (λ k. None) (%s)).step" % (name, ask), step))
     facts = [book.fact(f) for f in sorted(book.links.looks_of(k), key=str)]
     out.append("-- over the least linking it looks at these")
-    out.append(claim("%s_looks" % name, "sees %s (%s)\n    (%s)" % (name, ask, "\n        ∷ ".join(facts + ["[]"])), "true"))
+    out.append(claim("%s_looks" % name, "sees %s (%s)\n    (%s)" % (name, ask, "\n    ∷ ".join(facts + ["[]"])), "true"))
     if over:
         decided = {(book.files.rank[f.encode()], i): book.links.table[book.files.rank[f.encode()], i] for f, i in over}
         then = Linker(book.files, decided, STAGE, looks=True).ask(k)
@@ -301,9 +301,15 @@ def main():
     for name, title, rows, more in (("Names", "Worked rows: names, effective names, circles, ambiguous and hidden ones.", NAMES, ""),
                                     ("Ways", "Worked rows: imports, inheritance on several ways, roots, chains.", WAYS, PATH)):
         body = "\n".join(row(*r) for r in rows)
-        with open(os.path.join(TOP, "crates/link_examples/specs/%s.antt" % name), "w") as out:
-            text = body + ("\n" + more if more else "")
-            out.write(head(title, text) + "\n" + text)
+        rows_text = body + ("\n" + more if more else "")
+        text = head(title, rows_text) + "\n" + rows_text
+        path = os.path.join(TOP, "crates/link_examples/specs/%s.antt" % name)
+        if "--check" in sys.argv:
+            if open(path).read() != text:
+                sys.exit("%s isn't what tools/make_link_rows.py writes" % path)
+        else:
+            with open(path, "w") as out:
+                out.write(text)
 
 
 if __name__ == "__main__":
