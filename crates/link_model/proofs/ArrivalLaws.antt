@@ -85,7 +85,7 @@ numbered_more (t ∷ files) n s =
     λ i. record { number = record { 0 = n }; file = t }
     ∷ (numbered_more files (suc n) s ∙ ap (λ (k : ℕ). numbered_from (suc n) files ++ record { number = record { 0 = k }; file = s } ∷ []) e) i
 
-name_among : (files : List StoredFile) (n : ℕ) (t : Numbered) → IsMember (numbered_from n files) t → IsMember (map (λ y. y.name) files) t.file.name
+pub name_among : (files : List StoredFile) (n : ℕ) (t : Numbered) → IsMember (numbered_from n files) t → IsMember (map (λ y. y.name) files) t.file.name
 name_among [] n t h = absurd h
 name_among (s ∷ files) n t (inl e) = inl (ap (λ (u : Numbered). u.file.name) e)
 name_among (s ∷ files) n t (inr h) = inr (name_among files (suc n) t h)

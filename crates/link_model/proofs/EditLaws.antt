@@ -24,10 +24,10 @@ use Rattle.link_model.specs.Edits.{HasNoRoot, KeepsRules}
 use Rattle.link_model.proofs.RuleLaws.{rule_tame}
 
 -- the file with another model
-abbrev remodelled : ℕ → Option Data → Numbered → Numbered
+abbrev pub remodelled : ℕ → Option Data → Numbered → Numbered
 remodelled f m s = cond (nat_eq s.number.0 f) (record { number = s.number; file = record s.file { model = m } }) s
 
-library_kept : (b : Bool) (m : Option Data) (s : Numbered) → (cond b (record { number = s.number; file = record s.file { model = m } }) s).file.library
+pub library_kept : (b : Bool) (m : Option Data) (s : Numbered) → (cond b (record { number = s.number; file = record s.file { model = m } }) s).file.library
     ≡ s.file.library
 library_kept true m s = refl
 library_kept false m s = refl
@@ -44,7 +44,7 @@ chosen_map : {A B : Type 0} (g : A → B) (b : Bool) (x : A) (xs : List A) → c
 chosen_map g true x xs = refl
 chosen_map g false x xs = refl
 
-eq_exact : (a b : ℕ) → nat_eq a b ≡ true → a ≡ b
+pub eq_exact : (a b : ℕ) → nat_eq a b ≡ true → a ≡ b
 eq_exact a b h = grind (arith, nat_tests)
 
 eq_true : (a b : ℕ) → a ≡ b → nat_eq a b ≡ true
@@ -67,11 +67,11 @@ module _ (f : ℕ) (m : Option Data) where
       (λ i. cond (before_kept s t i) (map (remodelled f m) (s ∷ t ∷ ts)) (remodelled f m t ∷ placed_kept s ts i))
       ∙ cond_map (remodelled f m) (stands_before s.file t.file) (s ∷ t ∷ ts) (t ∷ placed s ts)
 
-  rank_kept : (ss : List Numbered) → in_rank (map (remodelled f m) ss) ≡ map (remodelled f m) (in_rank ss)
+  pub rank_kept : (ss : List Numbered) → in_rank (map (remodelled f m) ss) ≡ map (remodelled f m) (in_rank ss)
   rank_kept [] = refl
   rank_kept (s ∷ ss) = ap (placed (remodelled f m s)) (rank_kept ss) ∙ placed_kept s (in_rank ss)
 
-  where_kept : (test : StoredFile → Bool) → ((s : Numbered) → test (remodelled f m s).file ≡ test s.file) → (ss : List Numbered)
+  pub where_kept : (test : StoredFile → Bool) → ((s : Numbered) → test (remodelled f m s).file ≡ test s.file) → (ss : List Numbered)
       → those_where (λ s. test s.file) (map (remodelled f m) ss) ≡ map (remodelled f m) (those_where (λ s. test s.file) ss)
   where_kept test h [] = refl
   where_kept test h (s ∷ ss) = (λ i. chosen (h s i) (remodelled f m s) (where_kept test h ss i))
@@ -83,7 +83,7 @@ module _ (f : ℕ) (m : Option Data) where
       (λ i. cond (h i) (record { number = record { 0 = n }; file = record s { model = m } }) (record { number = record { 0 = n }; file = s })
       ∷ unmoved files (suc n) (omega arith) i)
 
-  number_kept : (files : List StoredFile) (n k : ℕ) → f ≡ n + k → numbered_from n (with_model files k m) ≡ map (remodelled f m) (numbered_from n files)
+  pub number_kept : (files : List StoredFile) (n k : ℕ) → f ≡ n + k → numbered_from n (with_model files k m) ≡ map (remodelled f m) (numbered_from n files)
   number_kept [] n k e = refl
   number_kept (s ∷ files) n zero e = let h : nat_eq n f ≡ true = eq_true n f (omega arith) in
       λ i. cond (sym h i) (record { number = record { 0 = n }; file = record s { model = m } }) (record { number = record { 0 = n }; file = s })
@@ -98,7 +98,7 @@ module _ (f : ℕ) (m : Option Data) where
   roots_kept x (s ∷ ss) h = λ i. h s (inl refl) i ++ roots_kept x ss (λ t among. h t (inr among)) i
 
 -- members of what is ranked and chosen
-among_where : {A : Type 0} (test : A → Bool) (xs : List A) (x : A) → IsMember (those_where test xs) x → IsMember xs x × (test x ≡ true)
+pub among_where : {A : Type 0} (test : A → Bool) (xs : List A) (x : A) → IsMember (those_where test xs) x → IsMember xs x × (test x ≡ true)
 among_where test [] x h = absurd h
 among_where test (y ∷ xs) x h = elim (bool_cases (test y)) [
   | inl a ↦ let h : IsMember (y ∷ those_where test xs) x = rw a at h in
@@ -114,11 +114,11 @@ among_placed s t (u ∷ ts) h = elim (bool_cases (stands_before s.file u.file)) 
       elim h [ inl e ↦ inr (inl e) | inr n ↦ elim (among_placed s t ts n) [ inl e ↦ inl e | inr l ↦ inr (inr l) ] ]
 ]
 
-among_rank : (ss : List Numbered) (t : Numbered) → IsMember (in_rank ss) t → IsMember ss t
+pub among_rank : (ss : List Numbered) (t : Numbered) → IsMember (in_rank ss) t → IsMember ss t
 among_rank [] t h = h
 among_rank (s ∷ ss) t h = elim (among_placed s t (in_rank ss) h) [ inl e ↦ inl e | inr n ↦ inr (among_rank ss t n) ]
 
-among_numbered : (files : List StoredFile) (n : ℕ) (t : Numbered) → IsMember (numbered_from n files) t → (k : ℕ) × (t.number.0 ≡ n + k)
+pub among_numbered : (files : List StoredFile) (n : ℕ) (t : Numbered) → IsMember (numbered_from n files) t → (k : ℕ) × (t.number.0 ≡ n + k)
     × (slice_get files k ≡ Some t.file)
 among_numbered [] n t h = absurd h
 among_numbered (s ∷ files) n t (inl e) = (0, (let same : n ≡ t.number.0 = ap (λ u. u.number.0) e in omega arith), ap (λ (u : Numbered). Some u.file) e)

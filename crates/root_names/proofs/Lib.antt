@@ -1,0 +1,5 @@
+pub mod TableLaws
+pub mod PutLaws
+pub mod FileLaws
+pub mod RootLaws
+pub mod KeepLaws
