@@ -115,7 +115,7 @@ module _ (files : List StoredFile) (s : StoredFile) (fresh : IsMember (map (λ y
   inserted : Inserted new (in_rank (numbered_from 0 files)) (in_rank (numbered_from 0 files ++ new ∷ []))
   inserted = rank_both new (numbered_from 0 files) (λ t among e. fresh (subst (IsMember (map (λ y. y.name) files)) e (name_among files 0 t among)))
 
-  roots_more : (x : List ℕ) (test : Numbered → Bool) → flat_map (root_members x) (those_where test (in_rank (numbered_from 0 (files ++ s ∷ []))))
+  pub roots_more : (x : List ℕ) (test : Numbered → Bool) → flat_map (root_members x) (those_where test (in_rank (numbered_from 0 (files ++ s ∷ []))))
       ≡ flat_map (root_members x) (those_where test (in_rank (numbered_from 0 files)))
   roots_more x test =
       ap (λ ss. flat_map (root_members x) (those_where test (in_rank ss))) (numbered_more files 0 s)

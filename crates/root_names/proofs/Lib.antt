@@ -3,3 +3,4 @@ pub mod PutLaws
 pub mod FileLaws
 pub mod RootLaws
 pub mod KeepLaws
+pub mod CallerLaws
