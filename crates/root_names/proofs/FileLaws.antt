@@ -9,11 +9,10 @@ use Rattle.element_store.specs.declared.numbers.FileNo.{FileNo}
 use Rattle.element_store.specs.declared.numbers.MemberNo.{MemberNo}
 use Rattle.element_store.specs.declared.models.StoredFile.{StoredFile}
 use Rattle.element_store.specs.Numbers.{those_where}
-use Rattle.element_store.specs.Model.{Data}
 use Rattle.element_store.specs.Stored.{in_order, stands_before, with_model}
 use Rattle.element_store.proofs.RankLaws.{before_itself, before_through, before_other}
 use Rattle.link_model.specs.Outside.{Numbered, numbered_from, placed, in_rank, root_members}
-use Rattle.link_model.proofs.EditLaws.{remodelled, library_kept, eq_exact, number_kept, rank_kept, where_kept, among_where, among_placed, among_rank, among_numbered}
+use Rattle.link_model.proofs.EditLaws.{remodelled, eq_exact, number_kept, rank_kept, where_kept, among_where, among_placed, among_rank, among_numbered}
 use Rattle.link_model.proofs.ArrivalLaws.{name_among}
 use Rattle.root_names.specs.Roots.{HaveNoModel}
 use Rattle.root_names.specs.Steps.{is_other, others, put_each, is_behind, stand_so}

@@ -1,5 +1,5 @@
 -- The names of the roots of all files, with those of one file and without them.
-use Rattle.std.proofs.Common.{◌≡◌, ℕ, Bool, true, false, not, nat_eq, List, [], ◌∷◌, map, refl, sym, ◌∙◌, ap, inl, inr}
+use Rattle.std.proofs.Common.{◌≡◌, ℕ, Bool, true, false, not, nat_eq, List, [], ◌∷◌, map, refl, sym, ◌∙◌, ap}
 use Rattle.std.specs.Prelude.{Some, None, Option, slice_get}
 use Rattle.std.specs.Option.{option_and_then}
 use Rattle.linker_base.specs.Members.{IsEachOnce}
@@ -12,7 +12,7 @@ use Rattle.element_store.specs.Stored.{with_model}
 use Rattle.element_store.specs.BaseRules.{model_of}
 use Rattle.link_model.specs.Outside.{Numbered, root_members, project_roots, library_roots}
 use Rattle.link_model.proofs.EditLaws.{remodelled, library_kept}
-use Rattle.root_names.specs.Roots.{Entries, bearing, Tables, AreRootsOf}
+use Rattle.root_names.specs.Roots.{Entries, Tables, AreRootsOf}
 use Rattle.root_names.specs.Steps.{others, left, put_each, is_behind, own_roots, IsPut, IsTaken, HasOthers, IsAsBefore}
 use Rattle.root_names.proofs.PutLaws.{others_twice}
 use Rattle.root_names.proofs.FileLaws.{put_among, others_left, not_among}

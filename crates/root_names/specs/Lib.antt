@@ -1,3 +1,2 @@
 pub mod Roots
-pub mod Sample
 pub mod Steps

@@ -41,12 +41,7 @@ impl RootNames {
 
     /// Puts the names of a file's root in, after the file was given its model. After `NoMemory` they
     /// are as they were.
-    pub fn put_in(
-        &mut self,
-        alloc: Global,
-        models: &Models,
-        file: FileNo,
-    ) -> Result<(), NoMemory>
+    pub fn put_in(&mut self, alloc: Global, models: &Models, file: FileNo) -> Result<(), NoMemory>
         requires within { file.0 < length models.now }
         requires before { AreRootsOf (with_model models.now file.0 None) self.old }
         ensures ok { OnOk result (AreRootsOf models.now self.new) }

@@ -1,5 +1,5 @@
 -- The items of the root have its members.
-use Rattle.std.proofs.Common.{◌≡◌, sym, ◌∙◌, ap}
+use Rattle.std.proofs.Common.{◌∙◌, ap}
 use Rattle.std.specs.List.{flat_map}
 use Rattle.std.proofs.lemmas.Result.{on_ok_weaker, on_err_weaker}
 use Rattle.element_store.specs.declared.lists.Item.{Item}
@@ -24,8 +24,7 @@ returns-clause-err c =
     let f = c.args.file in
     let d = c.args.model.now in
     on_err_weaker c.put_items.result (λ partly x.
-    let p = partly x in
-    (
+    let p = partly x in (
       p.0,
       λ none. p.1 (ap (λ (items : List Item). flat_map (shown_by x f d) items) c.as_slice.ensures ∙ roots_are x f d c.items.result.now c.items.ensures.members ∙ none),
     )) c.put_items.ensures.err

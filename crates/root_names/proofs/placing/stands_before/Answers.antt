@@ -1,7 +1,5 @@
 -- Files of one kind stand in the byte order of their names, and project files before those of the library.
-use Rattle.std.proofs.Common.{◌≡◌, rules, sym, ◌∙◌, ap, true, false, Bool, not}
-use Rattle.std.specs.Prelude.{Option, Some, slice_get}
-use Rattle.element_store.specs.declared.models.StoredFile.{StoredFile}
+use Rattle.std.proofs.Common.{◌≡◌, rules, sym, ◌∙◌, ap, not}
 use Rattle.element_store.proofs.RankLaws.{name_before, alike_before}
 use Rattle.root_names.specs.Steps.{stand_so}
 use Rattle.root_names.proofs.FileLaws.{get_below, unlike_before}

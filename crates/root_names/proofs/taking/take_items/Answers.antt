@@ -1,5 +1,4 @@
 -- One item more.
-use Rattle.std.proofs.Common.{◌∙◌}
 use Rattle.root_names.specs.Roots.{bearing}
 use Rattle.root_names.specs.Steps.{shown_by}
 use Rattle.root_names.proofs.PutLaws.{taken_more}

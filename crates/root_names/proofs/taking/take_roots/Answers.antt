@@ -1,5 +1,5 @@
 -- The items of the root have its members.
-use Rattle.std.proofs.Common.{◌≡◌, sym, ◌∙◌, ap, subst}
+use Rattle.std.proofs.Common.{◌∙◌, ap}
 use Rattle.std.specs.List.{flat_map}
 use Rattle.element_store.specs.Readings.{is_any}
 use Rattle.root_names.specs.Roots.{bearing}

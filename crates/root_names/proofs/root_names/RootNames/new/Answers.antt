@@ -1,5 +1,5 @@
 -- Files without models have no members.
-use Rattle.std.proofs.Common.{◌≡◌, sym, ◌∙◌, ap, not}
+use Rattle.std.proofs.Common.{sym, ◌∙◌, ap, not}
 use Rattle.root_names.specs.Roots.{bearing}
 use Rattle.root_names.proofs.FileLaws.{nothing_in}
 use Rattle.root_names.proofs.root_names.RootNames.new.Goals as goal

@@ -1,13 +1,10 @@
 -- What stands under each name after one member more.
-use Rattle.std.proofs.Common.{rules, ◌≡◌, ◌≤◌, ℕ, [], ◌∷◌, ◌++◌, List, None, length, nat_eq, cond, refl, sym, ◌∙◌, ap, subst, arith}
-use Rattle.std.specs.Prelude.{insert, Vec, Option}
-use Rattle.std.specs.declared.alloc.Global.{Global}
+use Rattle.std.proofs.Common.{rules, ◌≡◌, ◌≤◌, [], ◌∷◌, ◌++◌, List, None, length, nat_eq, cond, sym, ◌∙◌, ap, subst}
+use Rattle.std.specs.Prelude.{insert}
 use Rattle.std.specs.Cmp.Lexicographic.{pointwise}
 use Rattle.std.specs.Map.{lookup}
-use Rattle.std.specs.Option.{option_map_or}
 use Rattle.indexmap.proofs.CallerLemmas.{insert_entry-new}
 use Rattle.element_store.specs.declared.numbers.MemberNo.{MemberNo}
-use Rattle.std.specs.Prelude.{Result, OnErr, Ok, Err}
 use Rattle.root_names.specs.Roots.{Entries, bearing}
 use Rattle.root_names.proofs.TableLaws.{changed, added, same_either, insert_first, items_of, on_err}
 use Rattle.root_names.proofs.root_table.RootTable.insert.Goals as goal

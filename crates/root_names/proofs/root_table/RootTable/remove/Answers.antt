@@ -1,11 +1,10 @@
 -- What stands under each name after the members of a file are gone.
-use Rattle.std.proofs.Common.{◌≡◌, [], List, None, nat_eq, cond, rules, refl, sym, ◌∙◌, ap, subst}
+use Rattle.std.proofs.Common.{◌≡◌, List, None, nat_eq, cond, refl, sym, ◌∙◌, ap}
 use Rattle.std.specs.Cmp.Lexicographic.{pointwise}
 use Rattle.std.specs.Map.{lookup}
 use Rattle.element_store.specs.declared.numbers.MemberNo.{MemberNo}
-use Rattle.element_store.specs.declared.numbers.FileNo.{FileNo}
 use Rattle.root_names.specs.Roots.{Entries, bearing}
-use Rattle.root_names.specs.Steps.{is_other, others}
+use Rattle.root_names.specs.Steps.{others}
 use Rattle.root_names.proofs.TableLaws.{changed, unchanged}
 use Rattle.root_names.proofs.root_table.RootTable.remove.Goals as goal
 use Rattle.root_names.proofs.root_table.RootTable.remove.Goals.{in-Some, in-None}
