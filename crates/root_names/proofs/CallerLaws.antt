@@ -15,7 +15,8 @@ with_model_twice (s ∷ files) zero m n = refl
 with_model_twice (s ∷ files) (suc f) m n = ap (λ fs. s ∷ fs) (with_model_twice files f m n)
 
 -- after `take_out` and a model that is given: what `put_in` asks for
-pub ready : (files : List StoredFile) (f : ℕ) (m : Option Data) (t : Tables) → AreRootsOf (with_model files f None) t → AreRootsOf (with_model (with_model files f m) f None) t
+pub ready : (files : List StoredFile) (f : ℕ) (m : Option Data) (t : Tables) → AreRootsOf (with_model files f None) t
+    → AreRootsOf (with_model (with_model files f m) f None) t
 ready files f m t roots = subst (λ fs. AreRootsOf fs t) (sym (with_model_twice files f m None)) roots
 
 -- a file that has no model is as one whose model was taken away

@@ -1,5 +1,6 @@
 -- The members of files in order, with those of one file and without them.
-use Rattle.std.proofs.Common.{◌≡◌, ◌+◌, ◌<◌, length, ℕ, zero, suc, arith, Bool, true, false, cond, nat_eq, not, List, [], ◌∷◌, ◌++◌, map, refl, sym, ◌∙◌, ap, subst, inl, inr}
+use Rattle.std.proofs.Common.{◌≡◌, ◌+◌, ◌<◌, length, ℕ, zero, suc, arith, Bool, true, false, cond, nat_eq}
+use Rattle.std.proofs.Common.{not, List, [], ◌∷◌, ◌++◌, map, refl, sym, ◌∙◌, ap, subst, inl, inr}
 use Rattle.std.specs.Prelude.{Some, None, Option, slice_get}
 use Rattle.std.specs.List.{flat_map}
 use Rattle.std.proofs.lemmas.Bool.Decides.{nat_tests}
@@ -187,7 +188,8 @@ module _ (files : List StoredFile) (f : FileNo) (s : StoredFile) (at : slice_get
       | inr n ↦
           let before : stands_before s t.file ≡ false = not_behind t (sorted.0 own n) in
           rw b (ap (λ ms. root_members x t ++ ms) (put_sorted ss sorted.1 (λ u among. stands u (inr among)) n)
-          ∙ sym (put_behind (is_behind files f) (root_members x own) (root_members x t) (without ss) (λ m among. behind t m (stands t (inl refl)) among ∙ before)))
+          ∙ sym (put_behind (is_behind files f) (root_members x own) (root_members x t) (without ss) (λ m among. behind t m (stands t (inl refl)) among
+          ∙ before)))
     ]
   ]
 
@@ -219,9 +221,11 @@ module _ (files : List StoredFile) (f : FileNo) (s : StoredFile) (at : slice_get
     pub put_among : IsEachOnce (map (λ y. y.name) files) → test s ≡ true
         → all (chosen_files files) ≡ put_each (is_behind files f) (root_members x own) (all (chosen_files (with_model files f.0 None)))
     put_among once is =
-        put_sorted (chosen_files files) (sorted_where (λ u. test u.file) (in_rank (numbered_from 0 files)) (sorted_rank (numbered_from 0 files) (distinct_numbered files 0 once)))
+        put_sorted (chosen_files files) (sorted_where (λ u. test u.file) (in_rank (numbered_from 0 files)) (sorted_rank (numbered_from 0 files)
+        (distinct_numbered files 0 once)))
         chosen_stands
-        (member_where (λ u. test u.file) (in_rank (numbered_from 0 files)) own (member_rank (numbered_from 0 files) own (member_numbered files 0 f.0 f s (omega arith) at)) is)
+        (member_where (λ u. test u.file) (in_rank (numbered_from 0 files)) own (member_rank (numbered_from 0 files) own (member_numbered files 0 f.0 f s
+        (omega arith) at)) is)
         ∙ ap (put_each (is_behind files f) (root_members x own)) (sym less)
 
     pub others_left : others f (all (chosen_files files)) ≡ all (chosen_files (with_model files f.0 None))

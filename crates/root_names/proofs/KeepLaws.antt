@@ -80,13 +80,15 @@ module _ (files : List StoredFile) (f : FileNo) (s : StoredFile) (at : slice_get
     project_others old x =
         ap (others f) (old.project x ∙ sym (project_left x)) ∙ others_twice f (project_roots files x) ∙ project_left x ∙ sym (old.project x)
 
-    pub library_in : s.library ≡ true → AreRootsOf less t → IsPut (is_behind files f) own t.library new → AreRootsOf files (record { project = t.project; library = new })
+    pub library_in : s.library ≡ true → AreRootsOf less t → IsPut (is_behind files f) own t.library new
+        → AreRootsOf files (record { project = t.project; library = new })
     library_in is old put = record {
       project = λ x. old.project x ∙ sym (project_stays is x);
       library = λ x. put x ∙ ap (put_each (is_behind files f) (own x)) (old.library x) ∙ sym (library_put is x);
     }
 
-    pub project_in : s.library ≡ false → AreRootsOf less t → IsPut (is_behind files f) own t.project new → AreRootsOf files (record { project = new; library = t.library })
+    pub project_in : s.library ≡ false → AreRootsOf less t → IsPut (is_behind files f) own t.project new
+        → AreRootsOf files (record { project = new; library = t.library })
     project_in is old put = record {
       project = λ x. put x ∙ ap (put_each (is_behind files f) (own x)) (old.project x) ∙ sym (project_put is x);
       library = λ x. old.library x ∙ sym (library_stays is x);

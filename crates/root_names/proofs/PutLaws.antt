@@ -1,5 +1,6 @@
 -- Members put in among others, and taken away from them.
-use Rattle.std.proofs.Common.{◌≡◌, ◌<◌, ◌+◌, ℕ, zero, suc, arith, Bool, true, false, cond, List, [], ◌∷◌, ◌++◌, length, take, get_or, refl, sym, ◌∙◌, ap, subst, inl, inr}
+use Rattle.std.proofs.Common.{◌≡◌, ◌<◌, ◌+◌, ℕ, zero, suc, arith, Bool, true, false, cond, List}
+use Rattle.std.proofs.Common.{[], ◌∷◌, ◌++◌, length, take, get_or, refl, sym, ◌∙◌, ap, subst, inl, inr}
 use Rattle.std.specs.Prelude.{Some, slice_get, insert, ◌||◌}
 use Rattle.std.specs.List.{flat_map}
 use Rattle.std.proofs.lemmas.Option.{slice_get-get_or}
@@ -38,7 +39,8 @@ module _ (test : MemberNo → Bool) where
   put_first m (y ∷ ys) h = cond_true (test y) (m ∷ y ∷ ys) (y ∷ put_before test m ys) (h y (inl refl))
 
   -- where all pass, the new ones stand first
-  pub put_front : (ms ys : List MemberNo) → ((y : MemberNo) → IsMember ms y → test y ≡ false) → ((y : MemberNo) → IsMember ys y → test y ≡ true) → put_each test ms ys ≡ ms ++ ys
+  pub put_front : (ms ys : List MemberNo) → ((y : MemberNo) → IsMember ms y → test y ≡ false) → ((y : MemberNo) → IsMember ys y → test y ≡ true)
+      → put_each test ms ys ≡ ms ++ ys
   put_front [] ys own h = refl
   put_front (m ∷ ms) ys own h =
       ap (put_each test ms) (put_first m ys h) ∙ put_over ms m ys (own m (inl refl)) ∙ ap (λ zs. m ∷ zs) (put_front ms ys (λ y among. own y (inr among)) h)
@@ -56,7 +58,8 @@ module _ (test : MemberNo → Bool) where
   put_once false b m xs h = refl
 
   -- the place of the first that passes
-  pub put_there : (xs : List MemberNo) (i : ℕ) (y : MemberNo) → ((k : ℕ) (z : MemberNo) → k < i → slice_get xs k ≡ Some z → test z ≡ false) → slice_get xs i ≡ Some y
+  pub put_there : (xs : List MemberNo) (i : ℕ) (y : MemberNo) → ((k : ℕ) (z : MemberNo) → k < i → slice_get xs k ≡ Some z → test z ≡ false)
+      → slice_get xs i ≡ Some y
       → test y ≡ true → (m : MemberNo) → insert xs i m ≡ put_before test m xs
   put_there [] i y before is passes m = cc
   put_there (x ∷ xs) zero y before is passes m =
@@ -67,7 +70,8 @@ module _ (test : MemberNo → Bool) where
       ∙ sym (cond_false (test x) (m ∷ x ∷ xs) (x ∷ put_before test m xs) (before 0 x (omega arith) refl))
 
   -- or none passes
-  pub put_last : (xs : List MemberNo) → ((k : ℕ) (z : MemberNo) → k < length xs → slice_get xs k ≡ Some z → test z ≡ false) → (m : MemberNo) → insert xs (length xs) m ≡ put_before test m xs
+  pub put_last : (xs : List MemberNo) → ((k : ℕ) (z : MemberNo) → k < length xs → slice_get xs k ≡ Some z → test z ≡ false) → (m : MemberNo)
+      → insert xs (length xs) m ≡ put_before test m xs
   put_last [] before m = refl
   put_last (x ∷ xs) before m =
       ap (λ ys. x ∷ ys) (put_last xs (λ k z lt at. before (suc k) z (omega arith) at) m)
@@ -114,7 +118,8 @@ others_before f test m (y ∷ ys) own = elim (bool_cases (test y)) [
   | inr b ↦ rw b (ap (chosen (is_other f y) y) (others_before f test m ys own))
 ]
 
-pub others_each : (f : FileNo) (test : MemberNo → Bool) (ms xs : List MemberNo) → ((m : MemberNo) → IsMember ms m → is_other f m ≡ false) → others f (put_each test ms xs) ≡ others f xs
+pub others_each : (f : FileNo) (test : MemberNo → Bool) (ms xs : List MemberNo) → ((m : MemberNo) → IsMember ms m → is_other f m ≡ false)
+    → others f (put_each test ms xs) ≡ others f xs
 others_each f test [] xs own = refl
 others_each f test (m ∷ ms) xs own = others_each f test ms (put_before test m xs) (λ n among. own n (inr among)) ∙ others_before f test m xs (own m (inl refl))
 
@@ -133,7 +138,8 @@ joined_either [] ys zs = refl
 joined_either (x ∷ xs) ys zs = ap (λ us. x ∷ us) (joined_either xs ys zs)
 
 -- what the items of a list up to the next one give
-flat_more : {A B : Type 0} (g : A → List B) (xs : List A) (i : ℕ) (x : A) → slice_get xs i ≡ Some x → flat_map g (take (suc i) xs) ≡ flat_map g (take i xs) ++ g x
+flat_more : {A B : Type 0} (g : A → List B) (xs : List A) (i : ℕ) (x : A) → slice_get xs i ≡ Some x
+    → flat_map g (take (suc i) xs) ≡ flat_map g (take i xs) ++ g x
 flat_more g [] i x is = cc
 flat_more g (y ∷ ys) zero x is = let same : y ≡ x = cc in ap (λ z. g z ++ []) same ∙ none_after (g x)
 flat_more g (y ∷ ys) (suc i) x is = ap (λ zs. g y ++ zs) (flat_more g ys i x is) ∙ joined_either (g y) (flat_map g (take i ys)) (g x)
@@ -182,7 +188,8 @@ taken_more g items i d f before so_far now lt step old =
     ∙ ap (λ b. left f b before) (sym (any_both (flat_map g (take i items)) (g (get_or items i d))))
     ∙ ap (λ ms. left f (is_any ms) before) (sym (flat_there g items i d lt))
 
-pub put_more : {A : Type 0} (g : A → List MemberNo) (items : List A) (i : ℕ) (d : A) (test : MemberNo → Bool) (before so_far now : List MemberNo) → i < length items
+pub put_more : {A : Type 0} (g : A → List MemberNo) (items : List A) (i : ℕ) (d : A) (test : MemberNo → Bool) (before so_far now : List MemberNo)
+    → i < length items
     → now ≡ put_each test (g (get_or items i d)) so_far → so_far ≡ put_each test (flat_map g (take i items)) before
     → now ≡ put_each test (flat_map g (take (i + 1) items)) before
 put_more g items i d test before so_far now lt step old =
@@ -191,7 +198,8 @@ put_more g items i d test before so_far now lt step old =
     ∙ ap (λ ms. put_each test ms before) (sym (flat_there g items i d lt))
 
 -- want of memory at an item
-pub partly_more : {A : Type 0} (g : A → List MemberNo) (items : List A) (i : ℕ) (d : A) (f : FileNo) (test : MemberNo → Bool) (before so_far now : List MemberNo)
+pub partly_more : {A : Type 0} (g : A → List MemberNo) (items : List A) (i : ℕ) (d : A) (f : FileNo) (test : MemberNo
+    → Bool) (before so_far now : List MemberNo)
     → i < length items → ((item : A) (m : MemberNo) → IsMember (g item) m → is_other f m ≡ false)
     → (others f now ≡ others f so_far) × (g (get_or items i d) ≡ [] → now ≡ so_far) → so_far ≡ put_each test (flat_map g (take i items)) before
     → (others f now ≡ others f before) × (flat_map g items ≡ [] → now ≡ before)
@@ -203,22 +211,26 @@ partly_more g items i d f test before so_far now lt own step old = (
 )
 
 -- what was put in before want of memory, taken away
-pub restored : (f : FileNo) (ms before so_far now : List MemberNo) → others f before ≡ before → (others f so_far ≡ others f before) × (ms ≡ [] → so_far ≡ before)
+pub restored : (f : FileNo) (ms before so_far now : List MemberNo) → others f before ≡ before → (others f so_far ≡ others f before) × (ms ≡ []
+    → so_far ≡ before)
     → now ≡ left f (is_any ms) so_far → now ≡ before
 restored f [] before so_far now none partly taken = taken ∙ partly.1 refl
 restored f (m ∷ ms) before so_far now none partly taken = taken ∙ partly.0 ∙ none
 
 -- ---- as the code asks for them
 
-pub place_there : (test : MemberNo → Bool) (xs : List MemberNo) (i : ℕ) (d : MemberNo) (b : Bool) → ((k : ℕ) (z : MemberNo) → k < i → slice_get xs k ≡ Some z → test z ≡ false)
+pub place_there : (test : MemberNo → Bool) (xs : List MemberNo) (i : ℕ) (d : MemberNo) (b : Bool) → ((k : ℕ) (z : MemberNo) → k < i
+    → slice_get xs k ≡ Some z → test z ≡ false)
     → i < length xs → b ≡ test (get_or xs i d) → b ≡ true → (m : MemberNo) → insert xs i m ≡ put_before test m xs
 place_there test xs i d b before lt is true_here = put_there test xs i (get_or xs i d) before (slice_get-get_or xs i d lt) (sym is ∙ true_here)
 
-pub place_over : (test : MemberNo → Bool) (xs : List MemberNo) (i : ℕ) (d : MemberNo) (b : Bool) → ((k : ℕ) (z : MemberNo) → k < i → slice_get xs k ≡ Some z → test z ≡ false)
+pub place_over : (test : MemberNo → Bool) (xs : List MemberNo) (i : ℕ) (d : MemberNo) (b : Bool) → ((k : ℕ) (z : MemberNo) → k < i
+    → slice_get xs k ≡ Some z → test z ≡ false)
     → i < length xs → b ≡ test (get_or xs i d) → b ≡ false → (k : ℕ) (z : MemberNo) → k < i + 1 → slice_get xs k ≡ Some z → test z ≡ false
 place_over test xs i d b before lt is false_here k z below at = elim (cases_eq k i) [
   | inl same ↦
-      let here : get_or xs i d ≡ z = let found : Some (get_or xs i d) ≡ Some z = sym (slice_get-get_or xs i d lt) ∙ subst (λ j. slice_get xs j ≡ Some z) same at in cc in
+      let here : get_or xs i d ≡ z =
+      let found : Some (get_or xs i d) ≡ Some z = sym (slice_get-get_or xs i d lt) ∙ subst (λ j. slice_get xs j ≡ Some z) same at in cc in
       ap test (sym here) ∙ sym is ∙ false_here
   | inr other ↦ before k z (omega arith) at
 ]

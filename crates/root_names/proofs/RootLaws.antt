@@ -1,5 +1,6 @@
 -- The public members of a root, item by item and name by name.
-use Rattle.std.proofs.Common.{◌≡◌, ◌+◌, ℕ, suc, arith, Bool, true, false, nat_eq, not, ◌&&◌, ◌||◌, List, [], ◌∷◌, ◌++◌, map, refl, sym, ◌∙◌, ap, subst, inl, inr}
+use Rattle.std.proofs.Common.{◌≡◌, ◌+◌, ℕ, suc, arith, Bool, true, false, nat_eq, not, ◌&&◌, ◌||◌}
+use Rattle.std.proofs.Common.{List, [], ◌∷◌, ◌++◌, map, refl, sym, ◌∙◌, ap, subst, inl, inr}
 use Rattle.std.specs.Prelude.{Some, None, Option, slice_get}
 use Rattle.std.specs.List.{flat_map}
 use Rattle.std.specs.Option.{option_map_or}
@@ -76,7 +77,8 @@ names_alike None name h x = cc
 names_alike (Some y) None h x = cc
 names_alike (Some y) (Some z) h x = ap (pointwise nat_eq x) (sym (exact_names.exact y z h))
 
-names_apart : (short name : Option (List ℕ)) → option_map_or (λ y. is_name y name) short false ≡ false → (x : List ℕ) → is_name x short ≡ true → is_name x name ≡ true → ⊥
+names_apart : (short name : Option (List ℕ)) → option_map_or (λ y. is_name y name) short false ≡ false → (x : List ℕ) → is_name x short ≡ true
+    → is_name x name ≡ true → ⊥
 names_apart None name h x a b = cc
 names_apart (Some y) None h x a b = cc
 names_apart (Some y) (Some z) h x a b =

@@ -24,7 +24,8 @@ noted old new name w change h is_changed x = elim (bool_cases (pointwise nat_eq 
 ]
 
 -- when the list that is kept there is changed
-pub changed : (old new : Entries) (name : List ℕ) (v w : Vec MemberNo Global) (change : List MemberNo → List MemberNo) → lookup (λ k. pointwise nat_eq name k.items) old ≡ Some v
+pub changed : (old new : Entries) (name : List ℕ) (v w : Vec MemberNo Global) (change : List MemberNo → List MemberNo)
+    → lookup (λ k. pointwise nat_eq name k.items) old ≡ Some v
     → w.items ≡ change v.items → new ≡ set_value (λ k. pointwise nat_eq name k.items) old w
     → IsChanged old new (λ x. pointwise nat_eq x name) change
 changed old new name v w change there more set =
@@ -34,7 +35,8 @@ changed old new name v w change there more set =
     (more ∙ ap change kept)
 
 -- when the name is put last
-pub added : (old new : Entries) (name : List ℕ) (k : Vec ℕ Global) (w : Vec MemberNo Global) (change : List MemberNo → List MemberNo) → lookup (λ k. pointwise nat_eq name k.items) old ≡ None
+pub added : (old new : Entries) (name : List ℕ) (k : Vec ℕ Global) (w : Vec MemberNo Global) (change : List MemberNo → List MemberNo)
+    → lookup (λ k. pointwise nat_eq name k.items) old ≡ None
     → k.items ≡ name → w.items ≡ change [] → new ≡ old ++ (k, w) ∷ [] → IsChanged old new (λ x. pointwise nat_eq x name) change
 added old new name k w change none is more last =
     let kept : [] ≡ bearing old name = ap (λ o. option_map_or (λ (u : Vec MemberNo Global). u.items) o []) (sym none) in
@@ -43,7 +45,8 @@ added old new name k w change none is more last =
     (more ∙ ap change kept)
 
 -- a name under which nothing is kept stays so
-pub unchanged : (old : Entries) (name : List ℕ) (change : List MemberNo → List MemberNo) → lookup (λ k. pointwise nat_eq name k.items) old ≡ None → [] ≡ change []
+pub unchanged : (old : Entries) (name : List ℕ) (change : List MemberNo → List MemberNo) → lookup (λ k. pointwise nat_eq name k.items) old ≡ None
+    → [] ≡ change []
     → IsChanged old old (λ x. pointwise nat_eq x name) change
 unchanged old name change none same x = elim (bool_cases (pointwise nat_eq x name)) [
   | inl is ↦

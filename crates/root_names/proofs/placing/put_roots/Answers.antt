@@ -26,5 +26,6 @@ returns-clause-err c =
     on_err_weaker c.put_items.result (λ partly x.
     let p = partly x in (
       p.0,
-      λ none. p.1 (ap (λ (items : List Item). flat_map (shown_by x f d) items) c.as_slice.ensures ∙ roots_are x f d c.items.result.now c.items.ensures.members ∙ none),
+      λ none. p.1 (ap (λ (items : List Item). flat_map (shown_by x f d) items) c.as_slice.ensures
+          ∙ roots_are x f d c.items.result.now c.items.ensures.members ∙ none),
     )) c.put_items.ensures.err

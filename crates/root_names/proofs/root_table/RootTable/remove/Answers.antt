@@ -22,7 +22,8 @@ returns c x =
           let map = c.get_mut.follows.lender-at-none in
           let same : map ≡ c.self.inside.names = c.get_mut.follows.holds-at-none in
           let view : map.entries ≡ c.args.self.now = ap (λ m. m.entries) same ∙ c.self.view_is in
-          let none : lookup (λ k. pointwise nat_eq c.args.name.now k.items) map.entries ≡ None = ap (λ m. lookup (λ k. pointwise nat_eq c.args.name.now k.items) m.entries) same ∙ sym w.in-None.ensures.value in
+          let none : lookup (λ k. pointwise nat_eq c.args.name.now k.items) map.entries ≡ None =
+          ap (λ m. lookup (λ k. pointwise nat_eq c.args.name.now k.items) m.entries) same ∙ sym w.in-None.ensures.value in
           ap (λ i. bearing i.names.entries x) w.self-inside-is
           ∙ unchanged map.entries c.args.name.now change none refl x
           ∙ ap (λ (es : Entries). cond (pointwise nat_eq x c.args.name.now) (change (bearing es x)) (bearing es x)) view
