@@ -8,6 +8,10 @@
 mod placing;
 mod root_names;
 mod root_table;
+#[cfg(test)]
+mod root_tests;
+#[cfg(test)]
+mod sample;
 mod taking;
 
 pub use root_names::RootNames;
