@@ -1,5 +1,12 @@
 #!/usr/bin/env bash
-# Fails where a generated file isn't what its script writes today.
+# Fails where a generated file isn't what its script writes today. The rows of links are compared where the independent
+# implementation that they come from stands beside the repository.
 set -u
 cd "$(dirname "$0")"
-python3 make_table.py --check && python3 make_examples.py --check
+status=0
+python3 make_table.py --check || status=1
+python3 make_examples.py --check || status=1
+if [ -d ../../shared/oracle ]; then
+  python3 make_link_rows.py --check || status=1
+fi
+exit "$status"

@@ -3,6 +3,7 @@ pub mod ReferenceLaws
 pub mod OwnerLaws
 pub mod BareLaws
 pub mod NameLaws
+pub mod OwnerTableLaws
 pub mod NumberLaws
 pub mod RankLaws
 pub mod BaseLaws

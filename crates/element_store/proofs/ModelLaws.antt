@@ -1,7 +1,8 @@
 -- Facts of a model's records that follow from what holds of each model.
-use Rattle.std.proofs.Common.{◌≡◌, ◌∙◌, ℕ, zero, suc, ◌+◌, ◌<◌, Bool, true, false, ◌&&◌, Option, Some, None, IfSome, List, [], ◌∷◌, ◌++◌, map, length, slice_get, get_or, refl, sym, ap, subst, arith, option_and_then, zero-add, length-append}
+use Rattle.std.proofs.Common.{◌≡◌, ◌∙◌, ℕ, zero, suc, ◌+◌, ◌<◌, Bool, true, Option, Some, None, IfSome, List, [], ◌∷◌, ◌++◌, map, length, slice_get, get_or, refl, sym, ap, subst, arith, option_and_then, zero-add, length-append}
 use Rattle.std.specs.List.{list_all}
 use Rattle.std.proofs.lemmas.Option.{slice_get_read}
+use Rattle.linker_base.proofs.Cases.{both_true}
 use Rattle.element_store.specs.declared.lists.Item.{Item}
 use Rattle.element_store.specs.Model.{Data, members_in, imports_in}
 use Rattle.element_store.specs.declared.records.Element.{Element}
@@ -46,11 +47,6 @@ pub owner_before : (es : List Element) (k : ℕ) (e : Element) → HasRoot es �
 owner_before [] k e root order at = absurd root
 owner_before (x ∷ es) zero e root order at = let none : e.owner ≡ None = cc in rw none tt
 owner_before (x ∷ es) (suc k) e root order at = subst (λ m. IfSome e.owner (λ owner. owner < m)) (omega arith) (before_at 1 k es e (subst (λ os. AreBefore 1 os) (sym order.1) (trees_before order.0 0 1 (omega arith))) at)
-
--- both tests are passed
-both_true : (s t : Bool) → (s && t) ≡ true → (s ≡ true) × (t ≡ true)
-both_true true t e = (refl, e)
-both_true false t e = cc
 
 -- lists that are told by each place of another are as long as that
 pub told_long : {A B C : Type 0} (f : B → C) (g : ℕ → C) (n : ℕ) (bs : List B) (xs : List A) → map f bs ≡ map g (places_from n xs) → length bs ≡ length xs

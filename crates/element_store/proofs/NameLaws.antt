@@ -5,6 +5,7 @@ use Rattle.std.specs.declared.alloc.Global.{Global}
 use Rattle.std.specs.Map.{lookup, set_value}
 use Rattle.std.specs.Cmp.Lexicographic.{pointwise}
 use Rattle.std.proofs.lemmas.List.{take_more}
+use Rattle.std.proofs.lemmas.Option.{get_or_from_slice_get, slice_get-get_or}
 use Rattle.std.proofs.lemmas.Slice.Eq.{bytes_eq-Decides}
 use Rattle.std.proofs.lemmas.Bool.Decides.{Decides-eqb}
 use Rattle.linker_base.specs.Members.{IsExact}
@@ -141,19 +142,32 @@ chosen_more : (b : Bool) (n : ℕ) (xs ys : List ℕ) → chosen b n (xs ++ ys) 
 chosen_more true n xs ys = refl
 chosen_more false n xs ys = refl
 
-pub numbers_more : {A : Type 0} (n : ℕ) (test : A → Bool) (xs : List A) (x : A) → numbers_from n test (xs ++ x ∷ []) ≡ numbers_from n test xs ++ if_noted (test x) (n + length xs)
+pub numbers_more : {A : Type 0} (n : ℕ) (test : A → Bool) (xs : List A) (x : A)
+    → numbers_from n test (xs ++ x ∷ []) ≡ numbers_from n test xs ++ if_noted (test x) (n + length xs)
 numbers_more n test [] x = ap (λ k. if_noted (test x) k) (omega arith)
 numbers_more n test (y ∷ ys) x =
     ap (chosen (test y) n) (numbers_more (suc n) test ys x ∙ ap (λ k. numbers_from (suc n) test ys ++ if_noted (test x) k) (omega arith))
     ∙ chosen_more (test y) n (numbers_from (suc n) test ys) (if_noted (test x) (n + length (y ∷ ys)))
 
+-- the numbers of those that pass a test among the items up to the next one
+pub numbers_at : {A : Type 0} (test : A → Bool) (xs : List A) (i : ℕ) (x : A) → i < length xs → x ≡ get_or xs i x
+    → numbers_from 0 test (take (i + 1) xs) ≡ numbers_from 0 test (take i xs) ++ if_noted (test x) i
+numbers_at test xs i x h is =
+    ap (numbers_from 0 test) (take_more xs i x h ∙ ap (λ y. take i xs ++ y ∷ []) (sym is))
+    ∙ numbers_more 0 test (take i xs) x
+    ∙ ap (λ k. numbers_from 0 test (take i xs) ++ if_noted (test x) k) (omega (arith, fits))
+  where
+    fits : length (take i xs) ≡ i
+    fits = search rules
+
+-- the same where the item is what stands at the place
+pub numbers_there : {A : Type 0} (test : A → Bool) (xs : List A) (i : ℕ) (d : A) → i < length xs
+    → numbers_from 0 test (take (i + 1) xs) ≡ numbers_from 0 test (take i xs) ++ if_noted (test (get_or xs i d)) i
+numbers_there test xs i d h =
+    let x = get_or xs i d in
+    numbers_at test xs i x h (sym (get_or_from_slice_get xs i x x (slice_get-get_or xs i d h)))
+
 -- who bears a name among the members up to the next one
 pub bearers_at : (members : List Member) (i : ℕ) (m : Member) → i < length members → m ≡ get_or members i m → (owner : ℕ) (x : List ℕ)
     → bearers (take (i + 1) members) owner x ≡ bearers (take i members) owner x ++ if_noted (nat_eq m.owner owner && bears x m) i
-bearers_at members i m h is owner x =
-    ap (λ ms. bearers ms owner x) (take_more members i m h ∙ ap (λ y. take i members ++ y ∷ []) (sym is))
-    ∙ numbers_more 0 (λ y. nat_eq y.owner owner && bears x y) (take i members) m
-    ∙ ap (λ k. bearers (take i members) owner x ++ if_noted (nat_eq m.owner owner && bears x m) k) (omega (arith, fits))
-  where
-    fits : length (take i members) ≡ i
-    fits = search rules
+bearers_at members i m h is owner x = numbers_at (λ y. nat_eq y.owner owner && bears x y) members i m h is

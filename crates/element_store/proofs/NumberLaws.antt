@@ -1,8 +1,10 @@
 -- The numbers of items that pass a test rise, and the first above a number is found by a count.
-use Rattle.std.proofs.Common.{◌≡◌, ℕ, zero, suc, ◌+◌, ◌<◌, ◌≤◌, Bool, true, false, Option, Some, None, List, [], ◌∷◌, length, slice_get, get_or, leb, refl, ap, subst, arith, inl, inr, le-leb, leb-true, zero-le, le_refl, Bor, option_copied, IfSome}
+use Rattle.std.proofs.Common.{◌≡◌, ℕ, zero, suc, ◌+◌, ◌<◌, ◌≤◌, Bool, true, false, Option, Some, None, List, [], ◌∷◌, length, slice_get, get_or, leb, refl, ap, subst, arith, inl, inr, le-leb, leb-true, zero-le, zero-add, le_refl, Bor, option_copied, IfSome}
 use Rattle.std.specs.List.Sorted.{IsNonDecreasingBy, IsPartitionPoint}
 use Rattle.std.proofs.lemmas.Bool.{cases_lt}
 use Rattle.std.proofs.lemmas.Option.{slice_get_within, get_or_from_slice_get, slice_get_cases, slice_get-get_or, slice_get_past, slice_get_read}
+use Rattle.std.proofs.lemmas.List.Elements.{All-from_get_or}
+use Rattle.std.specs.List.{All}
 use Rattle.std.specs.Slice.{IsItemAt}
 use Rattle.linker_base.specs.Members.{IsMember}
 use Rattle.element_store.specs.Numbers.{chosen, numbers_from, IsLeastAbove, ArePassed}
@@ -110,6 +112,13 @@ pub numbers_rise : {A : Type 0} (test : A → Bool) (n : ℕ) (xs : List A) → 
 numbers_rise test n [] = λ i j d le lt. absurd (omega (arith, lt))
 numbers_rise test n (x ∷ xs) = chosen_rise (test x) n (numbers_from (suc n) test xs) (numbers_rise test (suc n) xs)
     (λ m is. let le = numbers_least test (suc n) xs m is in omega (arith, le))
+
+-- all of them stand among the items
+pub numbers_all : {A : Type 0} (test : A → Bool) (xs : List A) → All (λ n. n < length xs) (numbers_from 0 test xs)
+numbers_all test xs = All-from_get_or (λ n. n < length xs) (numbers_from 0 test xs) 0 (λ i lt.
+    let n = get_or (numbers_from 0 test xs) i 0 in
+    let at = slice_get-get_or (numbers_from 0 test xs) i 0 lt in
+    numbers_below test 0 (length xs) xs n (zero-add (length xs)) (member_at (numbers_from 0 test xs) i n at))
 
 -- a number that is looked up is the one at its place
 pub item_copied : (ns : List ℕ) (i : ℕ) (o : Option (Bor ℕ)) → IsItemAt ns i o → slice_get ns i ≡ option_copied o

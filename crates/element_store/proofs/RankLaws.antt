@@ -14,6 +14,7 @@ use Rattle.std.proofs.lemmas.List.{map-append}
 use Rattle.std.proofs.lemmas.List.Edits.{length-insert}
 use Rattle.linker_base.specs.Members.{IsMember, IsEachOnce}
 use Rattle.linker_base.proofs.Cases.{bool_cases}
+use Rattle.linker_base.proofs.Lists.{get_seam}
 use Rattle.linker_base.proofs.MemberLaws.{member_map}
 use Rattle.element_store.specs.declared.numbers.FileNo.{FileNo}
 use Rattle.element_store.specs.declared.models.StoredFile.{StoredFile}
@@ -203,11 +204,6 @@ get_old [] ys i y e = cc
 get_old (x ∷ xs) ys zero y e = e
 get_old (x ∷ xs) ys (suc i) y e = get_old xs ys i y e
 
--- and the new one stands behind them
-get_new : {A : Type 0} (xs : List A) (x : A) → slice_get (xs ++ x ∷ []) (length xs) ≡ Some x
-get_new [] x = refl
-get_new (y ∷ xs) x = get_new xs x
-
 -- an item after an insertion is an old one below, the new one, or an old one above
 record IsOldAbove {A : Type 0} (xs : List A) (at i : ℕ) (y : A) : Type 0 where
   place : ℕ
@@ -239,8 +235,12 @@ rank_up files x y r f does is rank =
 
 -- the new file among all
 rank_new : (files : List StoredFile) (x : StoredFile) → HasRank (files ++ x ∷ []) (rank_of files x) (length files)
-rank_new files x =
-    (x, get_new files x, where_more (λ z. stands_before z x) files x ∙ ap (λ b. rank_of files x + from_bool b) (before_itself x.library x.name) ∙ omega arith)
+rank_new files x = (
+  x,
+  get_seam files [] x,
+  where_more (λ z. stands_before z x) files x
+      ∙ ap (λ b. rank_of files x + from_bool b) (before_itself x.library x.name) ∙ omega arith,
+)
 
 -- the ranks after one file more, which is put in at its own rank
 pub ranked_more : (files : List StoredFile) (ranks : List ℕ) (x : StoredFile) → (IsMember (map (λ y. y.name) files) x.name → ⊥) → AreRanked files ranks
@@ -410,7 +410,7 @@ filter_one true x ys zs e = ap (λ ws. x ∷ ws) e
 filter_one false x ys zs e = e
 
 -- the filter of a chain is the list of those that pass
-filter_is : {A : Type 0} (p : A → Bool) (xs : List A) → filter p xs ≡ those_where p xs
+pub filter_is : {A : Type 0} (p : A → Bool) (xs : List A) → filter p xs ≡ those_where p xs
 filter_is p [] = refl
 filter_is p (x ∷ xs) = filter_one (p x) x (filter p xs) (those_where p xs) (filter_is p xs)
 

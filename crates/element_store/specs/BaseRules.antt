@@ -1,5 +1,5 @@
--- The base of a kind: the element of the library from which all elements of the kind specialise; after the specialisations that
--- KerML (8.4) and SysML (8.4) require of the elements of each kind.
+-- The base of a kind: the element of the library from which all elements of the kind specialise; after the
+-- specialisations that KerML (8.4) and SysML (8.4) require of the elements of each kind.
 use Rattle.std.specs.Prelude.{◌≡◌, ℕ, ◌<◌, Bool, true, ◌&&◌, cond, nat_eq, Option, Some, None, List, [], ◌∷◌, length, slice_get}
 use Rattle.std.specs.Option.{option_map, option_and_then}
 use Rattle.element_store.specs.declared.numbers.ElementNo.{ElementNo}
@@ -40,7 +40,8 @@ pub record RootElement : Type 0 where
   pub element : ℕ
 
 abbrev pub in_library : Bool → List ℕ → StoredFile → Option Data → Option RootElement
-in_library true x file (Some d) = option_map (λ e. record { file = file; model = d; element = e }) (least_owned d.members 0 x)
+in_library true x file (Some d) =
+    option_map (λ e. record { file = file; model = d; element = e }) (least_owned d.members 0 x)
 in_library library x file model = None
 
 -- the one whose file stands first
@@ -54,13 +55,21 @@ abbrev pub least_root : List StoredFile → List ℕ → Option RootElement
 least_root [] x = None
 least_root (f ∷ fs) x = earlier (in_library f.library x f f.model) (least_root fs x)
 
--- the element with the number in a file, if it is a type
+-- the element with that number in a file
+abbrev pub element_in : Data → ℕ → ElementNo
+element_in d e = record { file = d.file; index = e }
+
+-- that element, if it is a type
 abbrev pub typed : Data → ℕ → Option ElementNo
-typed d e = option_and_then (λ x. cond (is_type x.kind) (Some (record { file = d.file; index = e })) None) (slice_get d.elements e)
+typed d e = option_and_then (λ x. cond (is_type x.kind) (Some (element_in d e)) None) (slice_get d.elements e)
+
+-- the type to which a name leads from a root member: the least public member of that name, if its element is a type
+abbrev pub type_under : List ℕ → RootElement → Option ElementNo
+type_under x r = option_and_then (typed r.model) (least_owned r.model.members r.element x)
 
 -- where the path leads: to a public owned member of the library's roots, then to one of its members, which is a type
 abbrev pub led_to : List StoredFile → BasePath → Option ElementNo
-led_to files p = option_and_then (λ r. option_and_then (typed r.model) (least_owned r.model.members r.element p.name)) (least_root files p.namespace)
+led_to files p = option_and_then (type_under p.name) (least_root files p.namespace)
 
 -- the base of a kind, if it has one and its path leads to a type
 abbrev pub base_of_kind : List StoredFile → Kind → Option ElementNo
@@ -72,7 +81,10 @@ model_of files f = option_and_then (λ x. x.model) (slice_get files f)
 
 -- the owner of an enumerated value: of a feature, of whatever kind, that an enumeration definition owns
 abbrev pub enumerated_in : Data → Element → ℕ → Option ElementNo
-enumerated_in d e owner = option_and_then (λ o. cond (is_feature e.kind && is_enumeration o.kind) (Some (record { file = d.file; index = owner })) None) (slice_get d.elements owner)
+enumerated_in d e owner =
+    option_and_then
+    (λ o. cond (is_feature e.kind && is_enumeration o.kind) (Some (element_in d owner)) None)
+    (slice_get d.elements owner)
 
 abbrev pub enumeration_of : Data → Element → Option ElementNo
 enumeration_of d e = option_and_then (enumerated_in d e) e.owner
@@ -91,7 +103,8 @@ StandsIn files e = (d : Data) × (model_of files e.file.0 ≡ Some d) × (e.inde
 
 -- what a rule says of an element and the model in which it stands
 abbrev pub told_of : {A : Type 0} → (Data → Element → Option A) → List StoredFile → ElementNo → Option A
-told_of rule files e = option_and_then (λ d. option_and_then (rule d) (slice_get d.elements e.index)) (model_of files e.file.0)
+told_of rule files e =
+    option_and_then (λ d. option_and_then (rule d) (slice_get d.elements e.index)) (model_of files e.file.0)
 
 -- the base of the element that stands there
 abbrev pub base_of : List StoredFile → ElementNo → Option ElementNo

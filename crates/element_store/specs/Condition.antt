@@ -1,5 +1,5 @@
--- What holds of the model of every file, a part for each sentence; after KerML's Elements (8.3.2.1), Annotations (8.3.2.3),
--- Namespaces (8.3.2.4), Types (8.3.3.1) and Features (8.3.3.3).
+-- What holds of the model of every file, a part for each sentence; after KerML's Elements (8.3.2.1), Annotations
+-- (8.3.2.3), Namespaces (8.3.2.4), Types (8.3.3.1) and Features (8.3.3.3).
 use Rattle.std.specs.Prelude.{◌≡◌, ℕ, ◌+◌, ◌^◌, suc, Bool, true, false, ◌&&◌, nat_eq, nat_lt, nat_le, Option, Some, None, List, [], ◌∷◌, ◌++◌, length, map, drop, slice_get}
 use Rattle.std.specs.List.{list_all, flat_map}
 use Rattle.std.specs.Option.{option_map_or}
@@ -51,7 +51,9 @@ abbrev pub names_of : Option (List Node) → List ℕ
 names_of nodes = option_map_or names_in nodes []
 
 abbrev pub element_stands : Data → Element → Bool
-element_stands d e = option_map_or (has_element d) e.owner true && list_all (has_reference d) (names_of_bounds e.bounds ++ (names_of e.value ++ names_of e.result))
+element_stands d e =
+    option_map_or (has_element d) e.owner true
+    && list_all (has_reference d) (names_of_bounds e.bounds ++ (names_of e.value ++ names_of e.result))
 
 abbrev pub target_stands : Data → Target → Bool
 target_stands d (Owned e) = has_element d e
@@ -91,7 +93,8 @@ abbrev pub HasRoot : List Element → Type 0
 HasRoot [] = ⊥
 HasRoot (e ∷ es) = (e.kind ≡ Root) × (e.owner ≡ None)
 
--- Owned once: the owned targets of the members, in order, are the elements 1, 2, 3 and so on, with the owner and the names of each.
+-- Owned once: the owned targets of the members, in order, are the elements 1, 2, 3 and so on, with the owner and the
+-- names of each.
 
 pub record Owning : Type 0 where
   pub element : ℕ
@@ -170,13 +173,14 @@ size (Tree below beside) = suc (size below + size beside)
 -- the owners of the nodes in preorder, of trees that stand below a parent and whose first node has the number n
 abbrev pub owners_in : ℕ → ℕ → Trees → List (Option ℕ)
 owners_in parent n Nothing = []
-owners_in parent n (Tree below beside) = Some parent ∷ (owners_in n (suc n) below ++ owners_in parent (suc n + size below) beside)
+owners_in parent n (Tree below beside) =
+    Some parent ∷ (owners_in n (suc n) below ++ owners_in parent (suc n + size below) beside)
 
 abbrev pub IsPreorder : List Element → Type 0
 IsPreorder elements = (t : Trees) × (map (λ e. e.owner) (drop 1 elements) ≡ owners_in 0 1 t)
 
--- Numbering of references: element by element, first those of its specialisations, or of what a comment is about, and then those
--- that its bounds, its value, its result and the aliases and imports of its body name.
+-- Numbering of references: element by element, first those of its specialisations, or of what a comment is about, and
+-- then those that its bounds, its value, its result and the aliases and imports of its body name.
 
 pub record Told : Type 0 where
   pub reference : ℕ
@@ -209,7 +213,9 @@ told_by_item d e (item.Member m) = option_map_or (λ x. told_by_member e x.targe
 told_by_item d e (item.Import i) = option_map_or (λ x. told role.Import e x.reference ∷ []) (slice_get d.imports i) []
 
 abbrev pub held_by : Data → ℕ → Element → List Item → List Told
-held_by d e x is = map (told role.Bound e) (names_of_bounds x.bounds) ++ (map (told role.Value e) (names_of x.value ++ names_of x.result) ++ flat_map (told_by_item d e) is)
+held_by d e x is =
+    map (told role.Bound e) (names_of_bounds x.bounds)
+    ++ (map (told role.Value e) (names_of x.value ++ names_of x.result) ++ flat_map (told_by_item d e) is)
 
 abbrev pub by_element : Data → List Told → ℕ → List Element → List (List Item) → List Told
 by_element d all n [] items = []

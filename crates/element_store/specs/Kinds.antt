@@ -1,5 +1,5 @@
--- Kinds of elements: which are types, which are features, and the base of each; after KerML's Types (8.3.3.1) and its Kernel
--- layer (8.3.4), and SysML's definitions and usages (8.3).
+-- Kinds of elements: which are types, which are features, and the base of each; after KerML's Types (8.3.3.1) and its
+-- Kernel layer (8.3.4), and SysML's definitions and usages (8.3).
 use Rattle.std.specs.Prelude.{ℕ, Bool, true, false, List, codes, Option, Some, None}
 use Rattle.element_store.specs.declared.kind.Kind.{Kind}
 use Rattle.element_store.specs.declared.kind.Kind.TheVariants as kind

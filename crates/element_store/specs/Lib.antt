@@ -4,9 +4,10 @@ pub mod Expressions
 pub mod Numbers
 pub mod Model
 pub mod Condition
-pub mod NameTables
 pub mod Readings
+pub mod NameTables
+pub mod OwnerTables
+pub mod Tables
 pub mod Alike
 pub mod Stored
 pub mod BaseRules
-pub mod Worked

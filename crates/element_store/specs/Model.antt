@@ -1,4 +1,5 @@
--- The model of a file: its lists, and who names and owns what; after KerML's Elements (8.3.2.1) and Namespaces (8.3.2.4).
+-- The model of a file: its lists, and who names and owns what; after KerML's Elements (8.3.2.1) and Namespaces
+-- (8.3.2.4).
 use Rattle.std.specs.Prelude.{ℕ, Bool, true, false, ◌&&◌, ◌||◌, nat_eq, Option, Some, None, List, [], ◌∷◌, map}
 use Rattle.std.specs.List.{flat_map}
 use Rattle.std.specs.Cmp.Lexicographic.{pointwise}
@@ -106,7 +107,18 @@ no_marks = record {
 
 -- the root of a file
 abbrev pub root_element : Element
-root_element = record { kind = Root; owner = None; short = None; name = None; marks = no_marks; body = None; locale = None; bounds = None; value = None; result = None }
+root_element = record {
+  kind = Root;
+  owner = None;
+  short = None;
+  name = None;
+  marks = no_marks;
+  body = None;
+  locale = None;
+  bounds = None;
+  value = None;
+  result = None;
+}
 
 -- the model of a file with nothing in it
 abbrev pub bare_model : FileNo → Language → Data

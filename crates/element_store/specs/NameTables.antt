@@ -1,5 +1,5 @@
 -- The table through which the names of a namespace are found.
-use Rattle.std.specs.Prelude.{◌≡◌, ℕ, Bool, cond, nat_eq, Option, Some, None, List, [], Vec, unwrap_or}
+use Rattle.std.specs.Prelude.{◌≡◌, ℕ, Bool, ◌&&◌, cond, nat_eq, Option, Some, None, List, [], ◌++◌, Vec, unwrap_or}
 use Rattle.std.specs.declared.alloc.Global.{Global}
 use Rattle.std.specs.Map.{lookup}
 use Rattle.std.specs.Cmp.Lexicographic.{pointwise}
@@ -34,6 +34,16 @@ HasBearers members table = (owner : ℕ) (x : List ℕ) → found_in table owner
 -- the number alone, if it is noted
 abbrev pub if_noted : Bool → ℕ → List ℕ
 if_noted b number = chosen b number []
+
+-- one number more is found under a name
+abbrev pub IsNoted : Names → Names → List ℕ → ℕ → Type 0
+IsNoted old new name number =
+    (x : List ℕ) → numbers_under new x ≡ numbers_under old x ++ if_noted (pointwise nat_eq x name) number
+
+-- one number more is found under each name of an owner that passes the test
+abbrev pub AreNoted : Table → Table → ℕ → (List ℕ → Bool) → ℕ → Type 0
+AreNoted old new owner test number =
+    (o : ℕ) (x : List ℕ) → found_in new o x ≡ found_in old o x ++ if_noted (nat_eq owner o && test x) number
 
 -- a name, if there is one and it is not that short name
 abbrev pub unless_same : Option (List ℕ) → Option (List ℕ) → Option (List ℕ)

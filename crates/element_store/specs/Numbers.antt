@@ -1,4 +1,5 @@
--- Lists and their places: numbering from 0, the places at which a test is passed, rising lists, the least number above another.
+-- Lists and their places: numbering from 0, the places at which a test is passed, rising lists, the least number above
+-- another.
 use Rattle.std.specs.Prelude.{◌≡◌, ℕ, ◌<◌, ◌≤◌, suc, Bool, true, false, ◌&&◌, nat_lt, Option, Some, None, List, [], ◌∷◌, ◌↔◌, slice_get}
 use Rattle.linker_base.specs.Members.{IsMember}
 

@@ -1,4 +1,5 @@
--- The files of a project: names, ranks, and the models of those whose texts are present. The order is this project's own.
+-- The files of a project: names, ranks, and the models of those whose texts are present. The order is this project's
+-- own.
 use Rattle.std.specs.Prelude.{◌≡◌, ℕ, zero, suc, ◌<◌, ◌^◌, Bool, true, false, not, Option, Some, List, [], ◌∷◌, length, map, slice_get}
 use Rattle.std.specs.Cmp.Lexicographic.{slice_cmp}
 use Rattle.std.specs.Ordering.{nat_cmp, is_lt}
@@ -25,11 +26,13 @@ rank_of files x = length (those_where (λ y. stands_before y x) files)
 abbrev pub HasRank : List StoredFile → ℕ → ℕ → Type 0
 HasRank files rank f = (x : StoredFile) × (slice_get files f ≡ Some x) × (rank_of files x ≡ rank)
 
--- what holds of the files of a project: no name stands twice, and a model has its file's number and all that holds of a model
+-- what holds of the files of a project: no name stands twice, and a model has its file's number and all that holds of
+-- a model
 pub record AreFiles (files : List StoredFile) : Type 0 where
   pub few : length files < 2 ^ 32
   pub names : IsEachOnce (map (λ x. x.name) files)
-  pub models : (f : ℕ) (x : StoredFile) (d : Data) → slice_get files f ≡ Some x → x.model ≡ Some d → (d.file.0 ≡ f) × IsModel d
+  pub models : (f : ℕ) (x : StoredFile) (d : Data) → slice_get files f ≡ Some x → x.model ≡ Some d
+      → (d.file.0 ≡ f) × IsModel d
 
 -- the numbers are those of the files in the order of their ranks
 pub record AreRanked (files : List StoredFile) (ranks : List ℕ) : Type 0 where

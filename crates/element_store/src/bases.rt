@@ -102,7 +102,8 @@ fn public_member(model: &FileModel, owner: u32, name: &[u8]) -> Option<u32>
 // `None` comes where there is no such member, or the first one's element is no type.
 fn public_type(model: &FileModel, file: FileNo, owner: u32, name: &[u8]) -> Option<ElementNo>
     requires { model.now.file ≡ file }
-    ensures led { result ≡ option_and_then (typed model.now) (least_owned model.now.members owner name.now) }
+    ensures led { result ≡
+        option_and_then (typed model.now) (least_owned model.now.members owner name.now) }
     ensures within { IfSome result (IsIn model.now) }
 {
     let index = public_member(model, owner, name)?;
@@ -167,47 +168,13 @@ impl Bases {
     pub fn of(models: &Models, element: ElementNo) -> Option<ElementNo>
         requires { StandsIn models.now element }
         ensures base { result ≡ base_of models.now element }
-        ensures enumerated { IfSome (enumeration_at models.now element) (λ owner. result ≡ Some owner) }
+        ensures enumerated { IfSome (enumeration_at models.now element)
+            (λ owner. result ≡ Some owner) }
         ensures stands { IfSome result (StandsIn models.now) }
     {
         // The element stands there, so its file has a model.
         let model = models.model(element.file)?;
         let record = model.element(element.index);
         enumeration(model, element.file, record).or_else(|| Bases::find(models, record.kind))
-    }
-}
-
-#[cfg(test)]
-mod tests {
-    use super::Bases;
-    use crate::kind::Kind;
-    use crate::model::FileModel;
-    use crate::models::Models;
-    use crate::numbers::ElementNo;
-    use crate::outcome::Language;
-    use crate::texts::Text;
-    use std::alloc::Global;
-
-    // Whether no kind has a base where one file stands, with nothing in it.
-    fn lacks_bases(alloc: Global, library: bool) -> Option<bool> {
-        let mut models = Models::new(alloc);
-        let name = Text::of(Vec::from_slice(alloc, b"a.sysml").ok()?);
-        let Ok(file) = models.add(name, library) else {
-            return None;
-        };
-        let Ok(model) = FileModel::bare(alloc, file, Language::Sysml) else {
-            return None;
-        };
-        models.set(file, Some(model));
-        let mut kinds = [Kind::Package, Kind::PartDef, Kind::Attribute, Kind::EnumDef].iter();
-        let root = ElementNo { file, index: 0 };
-        let lacks = kinds.all(|kind| Bases::find(&models, *kind).is_none());
-        Some(lacks && Bases::of(&models, root).is_none())
-    }
-
-    #[test]
-    fn bare_files_keep_no_bases(rt: HostRuntime) {
-        assert!(rt; lacks_bases(rt.alloc(), true) == Some(true));
-        assert!(rt; lacks_bases(rt.alloc(), false) == Some(true));
     }
 }

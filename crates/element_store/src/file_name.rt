@@ -1,12 +1,13 @@
-ghost use Rattle.std.specs.Prelude.{◌≡◌, ◌↔◌, ◌||◌, nat_eq, IfOk, OnOk, true, false, codes};
-ghost use Rattle.std.specs.List.{list_all, ends_with};
+ghost use Rattle.std.specs.Prelude.{◌≡◌, ◌↔◌, ◌||◌, nat_eq, IfOk, OnOk, true, false};
+ghost use Rattle.std.specs.List.{list_all};
 ghost use Rattle.std.specs.Cmp;
 ghost use Rattle.std.specs.Cmp.Lexicographic.{pointwise};
 ghost use Rattle.std.specs.Hash as fed;
 ghost use Rattle.std.specs.Cmp.Rules.{hashing};
 ghost use Rattle.std.proofs.Common.{rules};
 ghost use Rattle.std.proofs.lemmas.Cmp.{nat_list_eq_equiv};
-ghost use Rattle.element_store.specs.FileNames.{is_name_byte, is_first_byte, has_name_length, is_file_name};
+ghost use Rattle.element_store.specs.FileNames.{is_name_byte, is_first_byte, has_name_length};
+ghost use Rattle.element_store.specs.FileNames.{ends_sysml, ends_kerml, is_file_name};
 
 use crate::outcome::Language;
 use std::alloc::Global;
@@ -68,19 +69,19 @@ fn all_in_name(bytes: &[u8]) -> bool
 }
 
 fn ends_sysml(bytes: &[u8]) -> bool
-    ensures { result ≡ ends_with nat_eq bytes.now (codes ".sysml") }
+    ensures { result ≡ ends_sysml bytes.now }
 {
     bytes.ends_with(b".sysml")
 }
 
 fn ends_kerml(bytes: &[u8]) -> bool
-    ensures { result ≡ ends_with nat_eq bytes.now (codes ".kerml") }
+    ensures { result ≡ ends_kerml bytes.now }
 {
     bytes.ends_with(b".kerml")
 }
 
 fn ends_name(bytes: &[u8]) -> bool
-    ensures { result ≡ (ends_with nat_eq bytes.now (codes ".sysml") || ends_with nat_eq bytes.now (codes ".kerml")) }
+    ensures { result ≡ (ends_sysml bytes.now || ends_kerml bytes.now) }
 {
     ends_sysml(bytes) || ends_kerml(bytes)
 }
@@ -117,7 +118,7 @@ impl FileName {
 
     /// The language in which the file is written: SysML exactly where its name ends with `.sysml`.
     pub fn language(&self) -> Language
-        ensures { (result ≡ Language.Sysml) ↔ (ends_with nat_eq self.now (codes ".sysml") ≡ true) }
+        ensures { (result ≡ Language.Sysml) ↔ (ends_sysml self.now ≡ true) }
     {
         if ends_sysml(&self.bytes) {
             Language::Sysml
@@ -148,60 +149,5 @@ impl Hash for FileName {
 
     fn hash<H: Hasher>(&self, state: &mut H) {
         self.bytes().hash(state);
-    }
-}
-
-#[cfg(test)]
-mod tests {
-    use super::{FileName, Language, NameFault};
-
-    #[test]
-    fn names_are_read_and_others_refused(rt: HostRuntime) {
-        let long = [b'a'; 195];
-        let mut longest = Vec::from_slice(rt.alloc(), long.as_slice()).unwrap_or(Vec::new(
-            rt.alloc(),
-        ));
-        assert!(rt; longest.len() == 195);
-        assert!(rt; longest.extend_from_slice(b".sysm").is_ok());
-        assert!(rt; FileName::read(rt.alloc(), &longest).is_err());
-        assert!(rt; longest.push(b'l').is_ok());
-        assert!(rt; matches!(FileName::read(rt.alloc(), &longest), Err(NameFault::Bad)));
-        let _ = longest.remove(0);
-        assert!(rt; FileName::read(rt.alloc(), &longest).is_ok());
-        match FileName::read(rt.alloc(), b"a.sysml") {
-            Ok(name) => assert!(rt; name.bytes() == b"a.sysml".as_slice()),
-            Err(_) => assert!(rt; false),
-        }
-    }
-
-    #[test]
-    fn the_ending_says_the_language(rt: HostRuntime) {
-        let cases = [
-            (b"a.sysml".as_slice(), Language::Sysml),
-            (b"a.kerml", Language::Kerml),
-            (b"a.kerml.sysml", Language::Sysml),
-            (b"a.sysml.kerml", Language::Kerml),
-        ];
-        for (bytes, want) in cases {
-            let Ok(name) = FileName::read(rt.alloc(), bytes) else {
-                panic!(rt; "{bytes:?}")
-            };
-            assert!(rt; name.bytes() == bytes);
-            assert!(rt; name.language() == want, "{bytes:?}");
-        }
-    }
-
-    #[test]
-    fn other_endings_are_refused(rt: HostRuntime) {
-        for bytes in [
-            b".kerml".as_slice(),
-            b"a.kermll",
-            b"a.kerm",
-            b"aakerml",
-            b"-a.kerml",
-        ] {
-            let fault = FileName::read(rt.alloc(), bytes).err();
-            assert!(rt; fault == Some(NameFault::Bad), "{bytes:?}");
-        }
     }
 }

@@ -5,7 +5,8 @@
 //! by their kind.
 //!
 //! `specs/Model` has the lists of a model, `specs/Condition` what holds of each, `specs/Stored` the
-//! order of files, `specs/BaseRules` the bases, and `specs/Worked` four models, evaluated.
+//! order of files, and `specs/BaseRules` the bases. Models written out, evaluated and made, stand in the
+//! crate `model_examples` with the tests.
 #![tactic(auto)]
 
 mod bases;
@@ -19,6 +20,7 @@ mod name_table;
 mod number_search;
 mod numbers;
 mod outcome;
+mod owner_table;
 mod records;
 mod texts;
 
@@ -33,8 +35,3 @@ pub use numbers::{ElementNo, FileNo, ImportNo, MemberNo, RefNo};
 pub use outcome::{Language, Outcome, Role};
 pub use records::{Element, Import, Member, Reference, Target};
 pub use texts::{Name, Text};
-
-#[cfg(test)]
-mod base_tests;
-#[cfg(test)]
-mod tests;

@@ -1,16 +1,22 @@
-ghost use Rattle.std.specs.Prelude.{◌≡◌, ◌+◌, ◌^◌, ◌<◌, ◌≤◌, ◌↔◌, Some, None, IfOk, IfSome, length, map, slice_get, true};
-ghost use Rattle.std.specs.List.{list_all};
+ghost use Rattle.std.specs.Prelude.{◌≡◌, ◌+◌, ◌^◌, ◌<◌, ◌≤◌, ◌↔◌, Some, None, IfOk, IfSome, true};
+ghost use Rattle.std.specs.Prelude.{length, map, slice_get};
+ghost use Rattle.std.specs.List.{All, list_all};
 ghost use Rattle.std.specs.List.Sorted.{IsNonDecreasingBy};
-ghost use Rattle.element_store.specs.Model.{data_of, bare_model, bearers, is_owning, members_in, imports_in, Data};
+ghost use Rattle.element_store.specs.Model.{data_of, bare_model, bearers, is_owning};
+ghost use Rattle.element_store.specs.Model.{members_in, imports_in, Data};
 ghost use Rattle.element_store.specs.Numbers.{numbers_from, IsLeastAbove};
-ghost use Rattle.element_store.specs.Condition.{IsModel, item_stands, context_fits, members_of, imports_of};
-ghost use Rattle.element_store.specs.Readings.{TargetStands, Owns, before_context, AreReferencesOf, ArePartedAt, HasNode, node_at, nodes_of, place_in};
+ghost use Rattle.element_store.specs.Condition.{IsModel, item_stands, context_fits};
+ghost use Rattle.element_store.specs.Condition.{members_of, imports_of};
+ghost use Rattle.element_store.specs.Readings.{TargetStands, Owns, HasNode, node_at, nodes_of, place_in};
+ghost use Rattle.element_store.specs.Readings.{before_context, AreReferencesOf, ArePartedAt};
+ghost use Rattle.element_store.specs.Readings.{redefining_of};
 
 use crate::lists::Items;
 use crate::name_table::NameTable;
 use crate::number_search::first_above;
 use crate::numbers::FileNo;
 use crate::outcome::Language;
+use crate::owner_table::OwnerTable;
 use crate::records::{Element, Import, Member, Reference, Target};
 use crate::texts::Name;
 use linker_base::NoMemory;
@@ -54,20 +60,23 @@ pub struct FileModel {
     names: NameTable,
     // The owning member of each element but the root, in the order of the elements.
     owning: Vec<u32>,
+    // The imports by namespace.
+    imports: OwnerTable,
+    // The owned members by namespace whose feature has a redefinition.
+    redefining: OwnerTable,
 }
 
 impl Model for FileModel {
-    ghost use Rattle.std.specs.Prelude.{◌≡◌};
-    ghost use Rattle.element_store.specs.Numbers.{numbers_from};
-    ghost use Rattle.element_store.specs.Model.{Data, data_of, is_owning};
+    ghost use Rattle.element_store.specs.Model.{Data, data_of};
     ghost use Rattle.element_store.specs.Condition.{IsModel};
-    ghost use Rattle.element_store.specs.NameTables.{HasBearers};
+    ghost use Rattle.element_store.specs.Tables.{HasTables};
 
     ghost Value = { Data };
 
     ghost view = { λ m. data_of m.parts };
 
-    ghost invariant = { λ m. IsModel (data_of m.parts) × (m.owning.items ≡ numbers_from 0 is_owning m.parts.members.items) × HasBearers m.parts.members.items m.names };
+    ghost invariant = { λ m. IsModel (data_of m.parts)
+        × HasTables (data_of m.parts) m.names m.owning.items m.imports m.redefining };
 }
 
 // The lists of a file with nothing in it.
@@ -129,10 +138,14 @@ impl FileModel {
     {
         let names = NameTable::of(alloc, &parts.members)?;
         let owning = owning_members(alloc, &parts.members)?;
+        let imports = OwnerTable::of_imports(alloc, &parts.imports)?;
+        let redefining = OwnerTable::of_redefining(alloc, &parts.members, &parts.references)?;
         Ok(FileModel {
             parts,
             names,
             owning,
+            imports,
+            redefining,
         })
     }
 
@@ -286,6 +299,22 @@ impl FileModel {
         ensures { result.now ≡ bearers self.now.members element name.now }
     {
         self.names.bearers(element, name)
+    }
+
+    /// The imports of that namespace, in order.
+    pub fn imports_of(&self, element: u32) -> &[u32]
+        ensures lent { result.now ≡ imports_of self.now element }
+        ensures within { All (λ import. import < length self.now.imports) result.now }
+    {
+        self.imports.numbers(element)
+    }
+
+    /// The owned members of that namespace whose feature has a redefinition, in order.
+    pub fn redefining(&self, element: u32) -> &[u32]
+        ensures lent { result.now ≡ redefining_of self.now element }
+        ensures within { All (λ member. member < length self.now.members) result.now }
+    {
+        self.redefining.numbers(element)
     }
 
     /// The number of the first reference of that element, and the number after its last one. The

@@ -1,7 +1,8 @@
-ghost use Rattle.std.specs.Prelude.{◌≡◌, ◌<◌, ◌^◌, ◌++◌, ◌&&◌, [], List, ℕ, OnOk, IfOk, length, nat_eq, option_copied};
+ghost use Rattle.std.specs.Prelude.{◌≡◌, ◌<◌, ◌^◌, [], OnOk, IfOk, length, nat_eq, option_copied};
 ghost use Rattle.std.specs.Cmp.Lexicographic.{pointwise};
 ghost use Rattle.element_store.specs.Model.{is_name, bears};
-ghost use Rattle.element_store.specs.NameTables.{numbers_under, found_in, if_noted, unless_same, HasBearers};
+ghost use Rattle.element_store.specs.NameTables.{numbers_under, found_in, unless_same};
+ghost use Rattle.element_store.specs.NameTables.{IsNoted, AreNoted, HasBearers};
 
 use crate::records::Member;
 use crate::texts::Name;
@@ -47,7 +48,7 @@ impl Names {
 
     /// Notes one member more that bears the name.
     fn note(&mut self, alloc: Global, name: &[u8], number: u32) -> Result<(), NoMemory>
-        ensures { OnOk result ((x : List ℕ) → numbers_under self.new x ≡ numbers_under self.old x ++ if_noted (pointwise nat_eq x name.now) number) }
+        ensures { OnOk result (IsNoted self.old self.new name.now number) }
     {
         match self.bearers.get_mut(name) {
             Some(numbers) => numbers.push(number),
@@ -113,7 +114,8 @@ impl NameTable {
 
     /// Notes a member under each of its declared names.
     fn note_member(&mut self, alloc: Global, member: &Member, number: u32) -> Result<(), NoMemory>
-        ensures { OnOk result ((o : ℕ) (x : List ℕ) → found_in self.new o x ≡ found_in self.old o x ++ if_noted (nat_eq member.now.owner o && bears x member.now) number) }
+        ensures { OnOk result (AreNoted self.old self.new member.now.owner
+            (λ x. bears x member.now) number) }
     {
         self.note_name(alloc, member.owner, member.short.as_ref(), number)?;
         self.note_name(alloc, member.owner, second_name(member), number)?;
@@ -128,7 +130,8 @@ impl NameTable {
         name: Option<&Name>,
         number: u32,
     ) -> Result<(), NoMemory>
-        ensures { OnOk result ((o : ℕ) (x : List ℕ) → found_in self.new o x ≡ found_in self.old o x ++ if_noted (nat_eq owner o && is_name x (option_copied name.entry)) number) }
+        ensures { OnOk result (AreNoted self.old self.new owner
+            (λ x. is_name x (option_copied name.entry)) number) }
     {
         match name {
             Some(name) => self.note(alloc, owner, name.bytes(), number),
@@ -138,7 +141,8 @@ impl NameTable {
 
     /// Notes one member more of that owner that bears the name.
     fn note(&mut self, alloc: Global, owner: u32, name: &[u8], number: u32) -> Result<(), NoMemory>
-        ensures { OnOk result ((o : ℕ) (x : List ℕ) → found_in self.new o x ≡ found_in self.old o x ++ if_noted (nat_eq owner o && pointwise nat_eq x name.now) number) }
+        ensures { OnOk result (AreNoted self.old self.new owner
+            (λ x. pointwise nat_eq x name.now) number) }
     {
         match self.namespaces.get_mut(&owner) {
             Some(names) => names.note(alloc, name, number),
@@ -160,72 +164,5 @@ fn second_name(member: &Member) -> Option<&Name>
     match &member.short {
         Some(short) => if short == name { None } else { Some(name) },
         None => Some(name),
-    }
-}
-
-#[cfg(test)]
-mod tests {
-    use super::NameTable;
-    use crate::kind::Visibility;
-    use crate::records::{Member, Target};
-    use crate::texts::Name;
-    use linker_base::NoMemory;
-    use std::alloc::Global;
-
-    /// The name with these bytes, or none for no bytes.
-    fn name(alloc: Global, bytes: &[u8]) -> Result<Option<Name>, NoMemory> {
-        if bytes.is_empty() {
-            return Ok(None);
-        }
-        Ok(Some(Name::of(Vec::from_slice(alloc, bytes)?)))
-    }
-
-    /// Members with these owners, short names and names.
-    fn members(alloc: Global, written: &[(u32, &[u8], &[u8])]) -> Result<Vec<Member>, NoMemory> {
-        let mut members = Vec::new(alloc);
-        for (owner, short, long) in written {
-            members.push(Member {
-                owner: *owner,
-                target: Target::Alias(0),
-                short: name(alloc, short)?,
-                name: name(alloc, long)?,
-                visibility: Visibility::Public,
-            })?;
-        }
-        Ok(members)
-    }
-
-    #[test]
-    fn members_are_found_by_owner_and_name(rt: HostRuntime) {
-        let written: [(u32, &[u8], &[u8]); 6] = [
-            (0, b"s", b"Seat"),
-            (1, b"", b"Seat"),
-            (0, b"Belt", b"Belt"),
-            (0, b"", b"Seat"),
-            (1, b"Seat", b""),
-            (0, b"", b""),
-        ];
-        let expected: [(u32, &[u8], &[u32]); 8] = [
-            (0, b"s", &[0]),
-            (0, b"Seat", &[0, 3]),
-            (1, b"Seat", &[1, 4]),
-            (0, b"Belt", &[2]),
-            (1, b"Belt", &[]),
-            (0, b"Sea", &[]),
-            (0, b"", &[]),
-            (2, b"Seat", &[]),
-        ];
-        let Ok(members) = members(rt.alloc(), written.as_slice()) else {
-            panic!(rt; "no memory for the members");
-        };
-        assert!(rt; members.len() == written.len());
-        let Ok(table) = NameTable::of(rt.alloc(), members.as_slice()) else {
-            panic!(rt; "no memory for the table");
-        };
-        for (owner, name, numbers) in expected {
-            assert!(rt; table.bearers(owner, name) == numbers);
-        }
-        let none = NameTable::none(rt.alloc());
-        assert!(rt; none.bearers(0, b"Seat").is_empty());
     }
 }

@@ -19,8 +19,9 @@ use Rattle.linker_base.proofs.MemberLaws.{same_members}
 use Rattle.session_model.specs.Book.{Book, put_in, name_at, text_at, rank, ranked_upto, ranked}
 use Rattle.session_model.specs.Commands.{Command, book_after}
 use Rattle.session_model.specs.Cut.{book_left}
-use Rattle.session_laws.specs.Order.{AreInOrder, IsNotAbove, IsBelow, IsPresent, IsByteOrder}
-use Rattle.session_laws.proofs.Orders.{order_pins}
+use Rattle.linker_base.specs.Orders.{AreInOrder}
+use Rattle.session_laws.specs.Order.{IsNotAbove, IsBelow, IsPresent, IsByteOrder}
+use Rattle.linker_base.proofs.OrderLaws.{order_pins}
 use Rattle.session_model.proofs.Ranks.{is_below, placed_here, placed_later, rank_same, rank_once}
 
 names_order : (book : Book) → IsStrictWeakOrder (is_below book)

@@ -1,7 +1,6 @@
 pub mod ByteOrder
 pub mod Choices
 pub mod Existence
-pub mod Orders
 pub mod Places
 pub mod Scripts
 pub mod Printed

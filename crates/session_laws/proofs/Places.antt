@@ -20,8 +20,9 @@ use Rattle.profile_laws.specs.Syntax.{IsGeneral, IsDefinition, IsDefinitions, Wr
 use Rattle.profile_laws.proofs.LexingLaws.{longest_some}
 use Rattle.profile_laws.proofs.SyntaxLaws.{exactly_read}
 use Rattle.session_model.specs.Book.{Book, source_of, files_of}
-use Rattle.session_laws.specs.Order.{AreInOrder, BeginsBefore}
-use Rattle.session_laws.proofs.Orders.{order_left, order_right, order_across}
+use Rattle.linker_base.specs.Orders.{AreInOrder}
+use Rattle.session_laws.specs.Order.{BeginsBefore}
+use Rattle.linker_base.proofs.OrderLaws.{order_left, order_right, order_across}
 
 -- the first token begins before the second one
 abbrev TokenBefore : Token → Token → Type 0

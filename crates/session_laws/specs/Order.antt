@@ -1,17 +1,13 @@
 -- The order of files and of rows: what a list in byte order is, and what it is to rise in place.
-use Rattle.std.specs.Prelude.{◌≡◌, ◌↔◌, ◌⊎◌, ℕ, ◌<◌, false, List, [], ◌∷◌, Some}
+use Rattle.std.specs.Prelude.{◌≡◌, ◌↔◌, ◌⊎◌, ℕ, ◌<◌, false, List, Some}
 use Rattle.std.specs.Cmp.Lexicographic.{slice_cmp}
 use Rattle.std.specs.Ordering.{nat_cmp, is_lt}
 use Rattle.std.specs.declared.cmp.Ordering.TheVariants.{Less}
 use Rattle.linker_base.specs.Members.{IsMember, IsEachOnce}
+use Rattle.linker_base.specs.Orders.{AreInOrder}
 use Rattle.first_links.specs.Model.{Reference}
 use Rattle.session_model.specs.Book.{Book, name_at, text_at}
 use Rattle.session_model.specs.Texts.{line_at, column_at}
-
--- each item is related so to all items that stand after it
-abbrev pub AreInOrder : {A : Type 0} → (A → A → Type 0) → List A → Type 0
-AreInOrder R [] = Unit {0}
-AreInOrder {A} R (x ∷ xs) = ((y : A) → IsMember xs y → R x y) × AreInOrder R xs
 
 -- in byte order, the name of the file k isn't below the name of the file j
 abbrev pub IsNotAbove : Book → ℕ → ℕ → Type 0

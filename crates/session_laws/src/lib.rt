@@ -12,7 +12,8 @@ ghost use Rattle.first_reader.specs.PackageModel.{model_of_text};
 ghost use Rattle.session_model.specs.Book.{Book, ranked, files_of};
 ghost use Rattle.session_model.specs.Commands.{Command};
 ghost use Rattle.session_model.specs.Cut.{IsCut, book_left};
-ghost use Rattle.session_laws.specs.Order.{AreInOrder, IsBelow, IsByteOrder, BeginsBefore, IsPrintedBefore};
+ghost use Rattle.linker_base.specs.Orders.{AreInOrder};
+ghost use Rattle.session_laws.specs.Order.{IsBelow, IsByteOrder, BeginsBefore, IsPrintedBefore};
 
 /// A law: each input has a cut. With the law that it has at most one, its commands, its answers and its stop are
 /// fixed by its bytes.

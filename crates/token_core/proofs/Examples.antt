@@ -54,11 +54,11 @@ opening = record { kind = Sign 4; from = 7; upto = 8 }
 
 -- 64 brackets may be open, and no 65
 pub deepest : too_deep 0 (replicate 64 opening) ≡ None
-unfolding opening
+unfolding opening signs
 deepest = refl
 
 pub too_deep_here : too_deep 0 (replicate 65 opening) ≡ Some 7
-unfolding opening
+unfolding opening signs
 too_deep_here = refl
 
 -- a name between quotes is the same name, and so it is spelt

@@ -1,7 +1,9 @@
 pub mod Runs
 pub mod Places
+pub mod Lists
 pub mod Signs
 pub mod Found
+pub mod Nesting
 pub mod Right
 pub mod Cuts
 pub mod OneLexing

@@ -1,16 +1,19 @@
--- What a name or a string stands for can be spelt again.
-use Rattle.std.proofs.Common.{◌≡◌, ℕ, ◌+◌, ◌-◌, ◌<◌, Bool, true, false, List, [], ◌∷◌, ◌++◌, length, drop, get_or, refl, sym, ap, subst, ◌∙◌, inl, inr, arith, length-drop}
+-- What a name or a string stands for can be spelt again, and so can what a comment says.
+use Rattle.std.proofs.Common.{◌≡◌, ℕ, ◌+◌, ◌-◌, ◌<◌, ◌≤◌, Bool, true, false, List, [], ◌∷◌, ◌++◌, length, take, drop, get_or, refl, sym, ap, subst, ◌∙◌, inl, inr, arith, length-drop, append_assoc}
 use Rattle.std.specs.Prelude.{◌==◌, IsUtf8}
 use Rattle.std.proofs.lemmas.Bool.{eq-eqb}
 use Rattle.std.proofs.lemmas.Bool.Decides.{nat_tests}
-use Rattle.std.proofs.lemmas.List.{get_or-drop, drop_more}
+use Rattle.std.proofs.lemmas.List.{get_or-drop, drop_more, length-append}
+use Rattle.std.proofs.Math.Seq.{get_or-append_seam, take-append_seam}
 use Rattle.std.proofs.lemmas.List.Folds.{drop_split}
-use Rattle.std.proofs.lemmas.Str.{IsUtf8-drop, IsCharBoundary-after_ascii}
+use Rattle.std.proofs.lemmas.Str.{IsUtf8-drop, IsUtf8-take, IsCharBoundary-after_ascii, IsCharBoundary-before_ascii}
 use Rattle.token_core.specs.declared.token.Token.{Token}
-use Rattle.token_core.specs.declared.token.TokenKind.TheVariants.{Name, Quote}
+use Rattle.element_store.specs.declared.outcome.Language.{Language}
+use Rattle.token_core.specs.declared.token.TokenKind.TheVariants.{Name, Quote, Comment}
+use Rattle.token_core.specs.declared.token.PieceKind.TheVariants.{Token as Kept}
 use Rattle.token_core.specs.Bytes.{IsRun, is_word, is_letter, is_plain, is_escape, escape_meaning}
-use Rattle.token_core.specs.Pieces.{IsBasicName, IsUpToQuote, IsQuoted}
-use Rattle.token_core.specs.Reading.{bytes_of, decoded, is_spellable, name_meaning, string_meaning, IsSpellable, IsTokenOf}
+use Rattle.token_core.specs.Pieces.{IsPiece, IsBasicName, IsUpToClose, IsUpToQuote, IsQuoted}
+use Rattle.token_core.specs.Reading.{bytes_of, comment_meaning, commented, decoded, is_spellable, name_meaning, string_meaning, IsSpellable, IsTokenOf}
 use Rattle.token_core.proofs.Characters.{word_utf8, decoded_utf8, inside_utf8}
 
 word_spellable : (b : ℕ) → is_word b ≡ true → is_spellable b ≡ true
@@ -96,3 +99,55 @@ name_spellable text t h = elim h.piece [
 -- a string of a text can be spelt
 pub string_spellable : (text : List ℕ) (t : Token) → IsTokenOf Quote text t → IsSpellable (string_meaning (bytes_of text t))
 string_spellable text t h = string_quoted text t.from (bytes_of text t) (drop t.upto text) h.utf8 (drop_split text t.from t.upto h.ordered) h.piece
+
+close_last : (bs : List ℕ) → IsUpToClose bs → (front : List ℕ) × (bs ≡ front ++ 42 ∷ 47 ∷ [])
+close_last [] i = absurd i
+close_last (b ∷ bs) (inl i) = ([], ap (λ x. x ∷ bs) i.0 ∙ ap (λ xs. 42 ∷ xs) i.1)
+close_last (b ∷ bs) (inr i) = let r = close_last bs i.1 in (b ∷ r.0, ap (λ xs. b ∷ xs) r.1)
+
+-- a comment is its two marks and what stands between
+pub comment_whole :
+    (language : Language) (bytes more : List ℕ)
+    → IsPiece language (Kept Comment) bytes more → (front : List ℕ) × (bytes ≡ 47 ∷ 42 ∷ (front ++ 42 ∷ 47 ∷ []))
+comment_whole language [] more i = absurd i
+comment_whole language (a ∷ []) more i = absurd i
+comment_whole language (a ∷ b ∷ bs) more i =
+    let r = close_last bs i.2 in
+    (r.0, ap (λ x. x ∷ b ∷ bs) i.0 ∙ (ap (λ x. 47 ∷ x ∷ bs) i.1 ∙ ap (λ xs. 47 ∷ 42 ∷ xs) r.1))
+
+front_meaning : (front : List ℕ) → comment_meaning (47 ∷ 42 ∷ (front ++ 42 ∷ 47 ∷ [])) ≡ front
+front_meaning front = ap (λ n. take n (front ++ 42 ∷ 47 ∷ [])) (omega (arith, length-append front (42 ∷ 47 ∷ []))) ∙ take-append_seam front (42 ∷ 47 ∷ [])
+
+-- a comment has its four marks
+pub comment_long : (text : List ℕ) (t : Token) → IsTokenOf Comment text t → 4 ≤ length (bytes_of text t)
+comment_long text t h =
+    let w = comment_whole h.language (bytes_of text t) (drop t.upto text) h.piece in
+    omega (arith, ap length w.1, length-append w.0 (42 ∷ 47 ∷ []))
+
+-- what a comment says, as a comment, is the comment
+pub comment_again : (text : List ℕ) (t : Token) → IsTokenOf Comment text t → commented (comment_meaning (bytes_of text t)) ≡ bytes_of text t
+comment_again text t h =
+    let w = comment_whole h.language (bytes_of text t) (drop t.upto text) h.piece in
+    ap commented (ap comment_meaning w.1 ∙ front_meaning w.0) ∙ sym w.1
+
+front_utf8 : (front rest : List ℕ) → IsUtf8 (front ++ 42 ∷ rest) → IsUtf8 front
+front_utf8 front rest u =
+    let whole : List ℕ = front ++ 42 ∷ rest in
+    let size : length whole ≡ length front + (1 + length rest) = omega (arith, length-append front (42 ∷ rest)) in
+    let here : get_or whole (length front) 0 ≡ 42 = get_or-append_seam front 42 rest 0 in
+    let low : get_or whole (length front) 0 < 128 = subst (λ x. x < 128) (sym here) (omega arith) in
+    subst IsUtf8 (take-append_seam front (42 ∷ rest)) (
+    IsUtf8-take whole (length front) u (IsCharBoundary-before_ascii whole (length front) (omega (arith, size)) low))
+
+-- what a comment says is UTF-8
+pub comment_utf8 : (text : List ℕ) (t : Token) → IsTokenOf Comment text t → IsUtf8 (comment_meaning (bytes_of text t))
+comment_utf8 text t h =
+    let w = comment_whole h.language (bytes_of text t) (drop t.upto text) h.piece in
+    let rest : List ℕ = drop t.upto text in
+    let after : List ℕ = w.0 ++ 42 ∷ (47 ∷ rest) in
+    let here : drop t.from text ≡ 47 ∷ 42 ∷ after =
+    drop_split text t.from t.upto h.ordered
+    ∙ (ap (λ xs. xs ++ rest) w.1 ∙ ap (λ xs. 47 ∷ 42 ∷ xs) (append_assoc w.0 (42 ∷ 47 ∷ []) rest)) in
+    let first : IsUtf8 (42 ∷ after) = after_first text t.from 47 (42 ∷ after) h.utf8 (omega arith) here in
+    let second : IsUtf8 after = after_first (42 ∷ after) 0 42 after first (omega arith) refl in
+    subst IsUtf8 (sym (ap comment_meaning w.1 ∙ front_meaning w.0)) (front_utf8 w.0 (47 ∷ rest) second)

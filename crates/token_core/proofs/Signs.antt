@@ -1,17 +1,15 @@
--- What all signs have in common, and what all reserved words.
-use Rattle.std.proofs.Common.{◌≡◌, ℕ, Bool, true, false, List, [], ◌∷◌, refl, sym, subst, inl, inr, get_or}
-use Rattle.std.specs.Prelude.{Some, None, ◌||◌, ◌==◌}
+-- What all signs have in common.
+use Rattle.std.proofs.Common.{◌≡◌, ℕ, Bool, true, false, List, [], ◌∷◌, refl, subst, inl, inr, get_or}
+use Rattle.std.specs.Prelude.{Some, ◌||◌, ◌==◌}
 use Rattle.std.specs.List.{list_all}
 use Rattle.std.specs.Str.{bytes_eq}
 use Rattle.std.proofs.lemmas.Slice.Eq.{bytes_eq-Decides}
 use Rattle.std.proofs.lemmas.List.Folds.{list_all_at}
 use Rattle.std.proofs.lemmas.List.Quantifiers.{position-Some}
-use Rattle.linker_base.proofs.Cases.{bool_cases, option_cases}
-use Rattle.element_store.specs.declared.outcome.Language.{Language}
-use Rattle.element_store.specs.declared.outcome.Language.TheVariants.{Kerml, Sysml}
+use Rattle.linker_base.proofs.Cases.{bool_cases}
 use Rattle.token_core.specs.declared.pieces.ByteClass.{ByteClass}
 use Rattle.token_core.specs.declared.pieces.ByteClass.TheVariants.{Other}
-use Rattle.token_core.specs.Words.{signs, words, place_in, is_word_form}
+use Rattle.token_core.specs.Words.{signs, place_in}
 use Rattle.token_core.specs.Scan.{class_of}
 
 -- the bytes at a place of a list are those that stand there
@@ -46,24 +44,3 @@ signs_have_form = refl
 
 pub sign_form : (bytes : List ℕ) (n : ℕ) → place_in signs bytes ≡ Some n → is_sign_form bytes ≡ true
 sign_form bytes n e = place_has is_sign_form signs bytes n signs_have_form e
-
-kerml_words_have_form : list_all is_word_form (words Kerml) ≡ true
-unfolding words
-kerml_words_have_form = refl
-
-sysml_words_have_form : list_all is_word_form (words Sysml) ≡ true
-unfolding words
-sysml_words_have_form = refl
-
-words_have_form : (language : Language) → list_all is_word_form (words language) ≡ true
-words_have_form Kerml = kerml_words_have_form
-words_have_form Sysml = sysml_words_have_form
-
--- bytes of another form are no reserved word
-pub no_word : (language : Language) (bytes : List ℕ) → is_word_form bytes ≡ false → None ≡ place_in (words language) bytes
-no_word language bytes other = elim (option_cases (place_in (words language) bytes)) [
-  | inl none ↦ sym none
-  | inr some ↦
-      let form : is_word_form bytes ≡ true = place_has is_word_form (words language) bytes some.0 (words_have_form language) some.1 in
-      absurd (cc)
-]

@@ -1,11 +1,11 @@
 //! The piece at the front of a text.
 
 ghost use Rattle.std.specs.Prelude.{◌≡◌, ◌≤◌, ◌<◌, ◌==◌, length, option_map};
-ghost use Rattle.token_core.specs.Scan.{class_of, found, found_by, note_at, quoted_at, sign_at, sign_of, slash_at, word_at, word_kind};
+ghost use Rattle.token_core.specs.Scan.{found, found_by, note_at, quoted_at, sign_at, sign_of, slash_at, word_at, word_kind};
 ghost use Rattle.token_core.specs.Words.{place_in, signs, words};
 
 use crate::token::{PieceKind, TokenKind};
-use crate::{scan, words};
+use crate::{classes, scan, sign, words};
 use element_store::Language;
 
 /// A piece that begins a text.
@@ -26,27 +26,6 @@ pub enum ByteClass {
     TextQuote,
     Slash,
     Other,
-}
-
-/// What the first byte of a piece tells of its form.
-fn class_of_byte(byte: u8) -> ByteClass
-    ensures { result ≡ class_of byte }
-{
-    if scan::is_space_byte(byte) {
-        ByteClass::Blank
-    } else if scan::is_letter_byte(byte) {
-        ByteClass::Letter
-    } else if byte.is_ascii_digit() {
-        ByteClass::Digit
-    } else if byte == b'\'' {
-        ByteClass::NameQuote
-    } else if byte == b'"' {
-        ByteClass::TextQuote
-    } else if byte == b'/' {
-        ByteClass::Slash
-    } else {
-        ByteClass::Other
-    }
 }
 
 /// A basic name or a reserved word, where the text begins with a letter.
@@ -115,7 +94,7 @@ fn slash_piece(text: &[u8]) -> Option<Found>
 fn sign_of_length(text: &[u8], length: usize) -> Option<Found>
     ensures { result ≡ sign_of length text.now }
 {
-    let number = words::sign_number(text.get(..length)?)?;
+    let number = sign::sign_number(text.get(..length)?)?;
     Some(Found {
         kind: PieceKind::Token(TokenKind::Sign(number)),
         length,
@@ -139,7 +118,7 @@ fn sign_piece(text: &[u8]) -> Option<Found>
 pub fn piece_at(text: &[u8], language: Language) -> Option<Found>
     ensures { result ≡ found language text.now }
 {
-    match class_of_byte(*text.first()?) {
+    match classes::class_of_byte(*text.first()?) {
         ByteClass::Blank => Some(Found {
             kind: PieceKind::Space,
             length: scan::space_length(text),

@@ -1,8 +1,8 @@
 //! What a token of a text stands for.
 
-ghost use Rattle.std.specs.Prelude.{◌≡◌, ◌<◌, ◌≤◌, ◌^◌, false, length, pos, IfOk, OnOk, SomeIff};
+ghost use Rattle.std.specs.Prelude.{◌≡◌, ◌<◌, ◌≤◌, ◌^◌, false, length, pos, IfOk, IsUtf8, OnOk, SomeIff};
 ghost use Rattle.token_core.specs.Bytes.{escape_meaning};
-ghost use Rattle.token_core.specs.Reading.{bytes_of, decoded, name_meaning, number_from, string_meaning, IsSpellable, IsTokenOf};
+ghost use Rattle.token_core.specs.Reading.{bytes_of, comment_meaning, commented, decoded, name_meaning, number_from, string_meaning, IsIntegerOf, IsSpellable, IsTokenOf};
 
 use crate::token::{Token, TokenKind};
 use element_store::{Name, Text};
@@ -92,6 +92,25 @@ pub fn string_of(alloc: Global, text: &[u8], token: Token) -> Result<Text, NoMem
     Ok(Text::of(bytes))
 }
 
+/// What stands between the first two and the last two bytes.
+fn inside(bytes: &[u8]) -> &[u8]
+    requires { 4 ≤ length bytes.now }
+    ensures { result.now ≡ comment_meaning bytes.now }
+{
+    &bytes[2..bytes.len() - 2]
+}
+
+/// What a comment of the text says: the bytes between its `/*` and its `*/`, as they are.
+pub fn comment_of(alloc: Global, text: &[u8], token: Token) -> Result<Text, NoMemory>
+    requires { IsTokenOf TokenKind.Comment text.now token }
+    ensures value { IfOk result (λ comment. comment ≡ comment_meaning (bytes_of text.now token)) }
+    ensures utf8 { IfOk result (λ comment. IsUtf8 comment) }
+    ensures again { IfOk result (λ comment. commented comment ≡ bytes_of text.now token) }
+{
+    let bytes = inside(token_bytes(text, token));
+    Ok(Text::of(Vec::from_slice(alloc, bytes)?))
+}
+
 /// The number for which the digits stand, None where it passes 9,223,372,036,854,775,807.
 fn number_of(digits: &[u8]) -> Option<i64>
     ensures { SomeIff result (number_from 0 digits.now < 2 ^ 63) (pos (number_from 0 digits.now)) }
@@ -115,7 +134,7 @@ fn number_of(digits: &[u8]) -> Option<i64>
 /// 9,223,372,036,854,775,807.
 pub fn integer_of(text: &[u8], token: Token) -> Option<i64>
     requires { IsTokenOf TokenKind.Integer text.now token }
-    ensures { SomeIff result (number_from 0 (bytes_of text.now token) < 2 ^ 63) (pos (number_from 0 (bytes_of text.now token))) }
+    ensures { IsIntegerOf result (bytes_of text.now token) }
 {
     number_of(token_bytes(text, token))
 }

@@ -2,29 +2,10 @@
 
 ghost use Rattle.std.specs.List.{prefix_len};
 ghost use Rattle.std.specs.Prelude.{◌≡◌, ◌≤◌, ◌<◌, length, drop, IfSome, false, IsTrue};
-ghost use Rattle.token_core.specs.Bytes.{is_digit, is_escape, is_in_line, is_letter, is_plain, is_space, is_word};
+ghost use Rattle.token_core.specs.Bytes.{is_digit, is_escape, is_in_line, is_plain, is_space, is_word};
 ghost use Rattle.token_core.specs.Scan.{close_end, quote_end};
 
-/// Whether it is a blank, a tab, a line feed, a form feed or a carriage return.
-pub fn is_space_byte(byte: u8) -> bool
-    ensures { result ≡ is_space byte }
-{
-    byte == b' ' || byte == b'\t' || byte == b'\n' || byte == 0x0C || byte == b'\r'
-}
-
-/// Whether it is an ASCII letter or `_`.
-pub fn is_letter_byte(byte: u8) -> bool
-    ensures { result ≡ is_letter byte }
-{
-    byte.is_ascii_alphabetic() || byte == b'_'
-}
-
-/// Whether it is a letter, a digit or `_`.
-pub fn is_word_byte(byte: u8) -> bool
-    ensures { result ≡ is_word byte }
-{
-    is_letter_byte(byte) || byte.is_ascii_digit()
-}
+use crate::classes;
 
 /// Whether it may stand between these quotes as it is.
 pub fn is_plain_byte(byte: u8, quote: u8) -> bool
@@ -51,7 +32,9 @@ pub fn space_length(text: &[u8]) -> usize
     ensures value { result ≡ prefix_len is_space text.now }
     ensures within { result ≤ length text.now }
 {
-    text.iter().take_while(|byte| is_space_byte(**byte)).count()
+    text.iter()
+        .take_while(|byte| classes::is_space_byte(**byte))
+        .count()
 }
 
 /// How many bytes of a word stand at the front.
@@ -59,7 +42,9 @@ pub fn word_length(text: &[u8]) -> usize
     ensures value { result ≡ prefix_len is_word text.now }
     ensures within { result ≤ length text.now }
 {
-    text.iter().take_while(|byte| is_word_byte(**byte)).count()
+    text.iter()
+        .take_while(|byte| classes::is_word_byte(**byte))
+        .count()
 }
 
 /// How many digits stand at the front.
@@ -67,7 +52,9 @@ pub fn digits_length(text: &[u8]) -> usize
     ensures value { result ≡ prefix_len is_digit text.now }
     ensures within { result ≤ length text.now }
 {
-    text.iter().take_while(|byte| byte.is_ascii_digit()).count()
+    text.iter()
+        .take_while(|byte| classes::is_digit_byte(**byte))
+        .count()
 }
 
 /// How many bytes stand at the front before the line ends.

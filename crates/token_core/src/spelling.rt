@@ -4,10 +4,10 @@ ghost use Rattle.std.specs.Prelude.{◌≡◌, ◌++◌, ◌∷◌, IfOk, OnOk};
 ghost use Rattle.std.specs.List.{list_all};
 ghost use Rattle.token_core.specs.Bytes.{is_word};
 ghost use Rattle.token_core.specs.Reading.{name_meaning, string_meaning, IsSpellable};
-ghost use Rattle.token_core.specs.Spelling.{escape_letter, is_basic_name, name_spelling, quoted, string_spelling, written, IsOneToken};
+ghost use Rattle.token_core.specs.Spelling.{escape_letter, is_basic_name, name_spelling, quoted, string_spelling, written, IsOneString, IsOneToken};
 
 use crate::token::TokenKind;
-use crate::{scan, words};
+use crate::{classes, words};
 use element_store::{Language, Name, Text};
 use linker_base::NoMemory;
 use std::alloc::Global;
@@ -30,7 +30,8 @@ fn escape_letter_of(byte: u8, quote: u8) -> Option<u8>
 
 /// Appends a byte as it is written between these quotes.
 fn push_written(spelling: &mut Vec<u8>, byte: u8, quote: u8) -> Result<(), NoMemory>
-    ensures { OnOk result (spelling.new.items ≡ spelling.old.items ++ written byte (escape_letter quote byte)) }
+    ensures { let bytes = written byte (escape_letter quote byte) in
+        OnOk result (spelling.new.items ≡ spelling.old.items ++ bytes) }
 {
     match escape_letter_of(byte, quote) {
         Some(letter) => {
@@ -59,7 +60,7 @@ fn quote_bytes(alloc: Global, bytes: &[u8], quote: u8) -> Result<Vec<u8>, NoMemo
 fn are_word_bytes(bytes: &[u8]) -> bool
     ensures { result ≡ list_all is_word bytes.now }
 {
-    bytes.iter().all(|byte| scan::is_word_byte(*byte))
+    bytes.iter().all(|byte| classes::is_word_byte(*byte))
 }
 
 /// Whether it is a letter or `_`, and then letters, digits and `_`.
@@ -67,7 +68,7 @@ fn is_basic(bytes: &[u8]) -> bool
     ensures { result ≡ is_basic_name bytes.now }
 {
     match bytes {
-        [first, rest @ ..] => scan::is_letter_byte(*first) && are_word_bytes(rest),
+        [first, rest @ ..] => classes::is_letter_byte(*first) && are_word_bytes(rest),
         [] => false,
     }
 }
@@ -100,7 +101,7 @@ pub fn spell_name(alloc: Global, name: &Name, language: Language) -> Result<Text
 pub fn spell_string(alloc: Global, text: &Text) -> Result<Text, NoMemory>
     requires { IsSpellable text.now }
     ensures value { IfOk result (λ string. string ≡ string_spelling text.now) }
-    ensures one { IfOk result (λ string. (language : Language) → IsOneToken language TokenKind.Quote string) }
+    ensures one { IfOk result (λ string. IsOneString string) }
     ensures back { IfOk result (λ string. string_meaning string ≡ text.now) }
 {
     let spelling = quote_bytes(alloc, text.bytes(), b'"')?;

@@ -6,8 +6,8 @@ ghost use Rattle.token_core.specs.Reading.{IsTokenOf};
 ghost use Rattle.token_core.specs.Terminals.{HasNumber};
 
 use crate::{
-    LexFault, Token, TokenKind, Tokens, integer_of, lex, name_of, spell_name, spell_string,
-    string_of, terminal_of,
+    LexFault, Token, TokenKind, Tokens, comment_of, integer_of, lex, name_of, spell_name,
+    spell_string, string_of, terminal_of,
 };
 use element_store::{Language, Text};
 use std::alloc::Global;
@@ -78,6 +78,12 @@ fn respelt_string(alloc: Global, text: &[u8], language: Language) -> Option<Text
     spell_string(alloc, &string).ok()
 }
 
+/// What the comment says that the text begins with.
+fn comment(alloc: Global, text: &[u8]) -> Option<Text> {
+    let token = first_token(alloc, text, Language::Sysml, TokenKind::Comment)?;
+    comment_of(alloc, text, token).ok()
+}
+
 /// The integer that the text begins with, None where it is too great.
 fn integer(alloc: Global, text: &[u8]) -> Option<i64> {
     let token = first_token(alloc, text, Language::Sysml, TokenKind::Integer)?;
@@ -95,6 +101,10 @@ fn token(kind: TokenKind, from: u32, upto: u32) -> Token {
     Token { kind, from, upto }
 }
 
+fn sign(number: u8, from: u32, upto: u32) -> Token {
+    token(TokenKind::Sign(number), from, upto)
+}
+
 #[test]
 fn signs_are_taken_longest(rt: HostRuntime) {
     let signs: [&[u8]; 43] = [
@@ -107,46 +117,10 @@ fn signs_are_taken_longest(rt: HostRuntime) {
         assert!(rt; is_one(rt.alloc(), sign, TokenKind::Sign(number as u8)));
     }
     assert!(rt; has_fault(rt.alloc(), b"!", LexFault::Token(0)));
-    assert!(rt;
-        has_tokens(
-            rt.alloc(),
-            b":::>",
-            &[
-                token(TokenKind::Sign(13), 0, 2),
-                token(TokenKind::Sign(14), 2, 4)
-            ]
-        )
-    );
-    assert!(rt;
-        has_tokens(
-            rt.alloc(),
-            b"::>>",
-            &[
-                token(TokenKind::Sign(16), 0, 3),
-                token(TokenKind::Sign(7), 3, 4)
-            ]
-        )
-    );
-    assert!(rt;
-        has_tokens(
-            rt.alloc(),
-            b"....",
-            &[
-                token(TokenKind::Sign(11), 0, 2),
-                token(TokenKind::Sign(11), 2, 4)
-            ]
-        )
-    );
-    assert!(rt;
-        has_tokens(
-            rt.alloc(),
-            b"====",
-            &[
-                token(TokenKind::Sign(20), 0, 3),
-                token(TokenKind::Sign(17), 3, 4)
-            ]
-        )
-    );
+    assert!(rt; has_tokens(rt.alloc(), b":::>", &[sign(13, 0, 2), sign(14, 2, 4)]));
+    assert!(rt; has_tokens(rt.alloc(), b"::>>", &[sign(16, 0, 3), sign(7, 3, 4)]));
+    assert!(rt; has_tokens(rt.alloc(), b"....", &[sign(11, 0, 2), sign(11, 2, 4)]));
+    assert!(rt; has_tokens(rt.alloc(), b"====", &[sign(20, 0, 3), sign(17, 3, 4)]));
     assert!(rt;
         has_tokens(
             rt.alloc(),
@@ -254,6 +228,14 @@ fn names_and_strings_are_spelt_canonically(rt: HostRuntime) {
             b"\"it's \\\"\xC3\xA9\""
         )
     );
+}
+
+#[test]
+fn comments_are_what_is_between_their_marks(rt: HostRuntime) {
+    assert!(rt; is_text(comment(rt.alloc(), b"/**/"), b""));
+    assert!(rt; is_text(comment(rt.alloc(), b"/* a\r\n **/ b"), b" a\r\n *"));
+    assert!(rt; is_text(comment(rt.alloc(), b"/*/* \xC3\xA9*/"), b"/* \xC3\xA9"));
+    assert!(rt; comment(rt.alloc(), b"//* a */").is_none());
 }
 
 #[test]

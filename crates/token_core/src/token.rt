@@ -1,8 +1,7 @@
-ghost use Rattle.std.specs.Prelude.{◌≡◌, ◌∷◌, ◌++◌, [], OnOk, OnErr};
+use linker_base::Listing;
 
-use linker_base::{Listing, NoMemory};
-use std::alloc::Global;
-use std::marker::Model;
+/// How many brackets may be open at one place of a text.
+pub const NESTING: u32 = 64;
 
 /// The kinds of tokens. Signs and words are numbered from 0 in the order of their lists, the words by the
 /// list of the text's language.
@@ -31,45 +30,7 @@ pub struct Token {
 }
 
 /// The tokens of a text, in order. Contracts see the list of them.
-#[derive(Drop)]
-pub struct Tokens {
-    tokens: Listing<Token>,
-}
-
-impl Model for Tokens {
-    ghost use Rattle.std.specs.Prelude.{List};
-    ghost use Rattle.token_core.specs.declared.token.Token.{Token};
-
-    ghost Value = { List Token };
-
-    ghost view = { λ t. t.tokens };
-}
-
-impl Tokens {
-    /// No tokens, which takes no memory.
-    pub fn new(alloc: Global) -> Self
-        ensures { result ≡ [] }
-    {
-        Tokens {
-            tokens: Listing::new(alloc),
-        }
-    }
-
-    /// Appends one token. After `NoMemory` the list is as it was.
-    pub fn push(&mut self, item: Token) -> Result<(), NoMemory>
-        ensures ok { OnOk result (self.new ≡ self.old ++ item ∷ []) }
-        ensures err { OnErr result (self.new ≡ self.old) }
-    {
-        self.tokens.push(item)
-    }
-
-    /// Lends the tokens, in order.
-    pub fn as_slice(&self) -> &[Token]
-        ensures { result.now ≡ self.now }
-    {
-        self.tokens.as_slice()
-    }
-}
+pub type Tokens = Listing<Token>;
 
 /// Why a text has no tokens. The number is the place in bytes, from 0 on.
 #[derive(Clone, Copy, Debug, PartialEq, Eq)]
@@ -78,7 +39,7 @@ pub enum LexFault {
     Encoding(u32),
     /// The first place, after whole pieces, at which no piece begins.
     Token(u32),
-    /// The bracket that would raise the nesting to 65.
+    /// The bracket that would raise the nesting past `NESTING`.
     TooDeep(u32),
     /// Want of memory.
     NoMemory,

@@ -4,7 +4,9 @@ use Rattle.token_core.specs.declared.token.Token.{Token}
 use Rattle.token_core.proofs.Cuts.{IsCutTo}
 use Rattle.token_core.specs.Scan.{found}
 use Rattle.token_core.specs.Lex.{too_deep}
-use Rattle.token_core.proofs.Cuts.{rest_is, right_piece, run_more, run_whole, run_stops, run_empty}
+use Rattle.linker_base.proofs.Lists.{rest_is}
+use Rattle.token_core.proofs.Cuts.{right_piece, run_more, run_whole, run_stops, run_empty}
+use Rattle.token_core.proofs.Kept.{lex_token}
 use Rattle.token_core.proofs.lexer.lex.Goals as goal
 
 pub loop-at-init : goal.loop-at-init
@@ -13,8 +15,8 @@ loop-at-init c = record {
   cut = subst (λ (ts : List Token). IsCutTo c.args.language c.args.text.now 0 ts) (sym c.new-tokens.ensures) (run_empty c.args.language c.args.text.now);
 }
 
-pub returns-in_default-piece_at : goal.returns-in_default-piece_at
-returns-in_default-piece_at c = (
+pub returns-in_default-piece_at-clause-whole : goal.returns-in_default-piece_at-clause-whole
+returns-in_default-piece_at-clause-whole c = (
   c.in_default.ensures.cases.1,
   run_stops c.args.language c.args.text.now c.loop-at.at c.loop-at.tokens c.loop-at.invariant.cut (omega arith) (ap (found c.args.language) (sym (rest_is c.loop-at.at c.args.text.now)) ∙ sym c.in_default-piece_at.ensures),
 )
@@ -48,9 +50,14 @@ loop-at-preserved c =
           run_more c.args.language c.args.text.now c.loop-at.at c.loop-at.tokens c.in-Some.found c.loop-at.invariant.cut h);
     }
 
-pub returns : goal.returns
-returns c = (
+pub returns-clause-whole : goal.returns-clause-whole
+returns-clause-whole c = (
   c.in_default.ensures.cases.1,
   run_whole c.args.language c.args.text.now c.loop-at.at c.loop-at.tokens c.loop-at.invariant.cut (omega arith),
   ap (too_deep 0) (sym c.as_slice.ensures) ∙ sym c.in_default-too_deep_place.ensures,
 )
+
+pub returns-clause-each : goal.returns-clause-each
+returns-clause-each c =
+    lex_token c.args.language c.args.text.now c.loop-at.tokens c.in_default.ensures.cases.1 (
+    run_whole c.args.language c.args.text.now c.loop-at.at c.loop-at.tokens c.loop-at.invariant.cut (omega arith))

@@ -15,7 +15,7 @@ within c =
 pub index-requires : goal.index-requires
 index-requires c =
     let d = data_of c.self.inside.parts in
-    omega (arith, within c, owners_long d c.self.invariant.0.owned, ap length c.self.invariant.1)
+    omega (arith, within c, owners_long d c.self.invariant.0.owned, ap length c.self.invariant.1.owning)
 
 pub returns-clause-member : goal.returns-clause-member
 returns-clause-member c =
@@ -23,7 +23,7 @@ returns-clause-member c =
     let below : c.args.element < length d.elements = subst (λ v. c.args.element < length v.elements) (sym c.self.view_is) c.requires in
     let lt : c.in_ok-place.place < length (drop 1 d.elements) = omega (arith, below, length-drop 1 d.elements, c.in_ok-place.ensures.0, c.in_ok-place.ensures.1) in
     let read : c.index.result.now ≡ get_or (numbers_from 0 is_owning d.members) c.in_ok-place.place c.index.result.now =
-    subst (λ ns. c.index.result.now ≡ get_or ns c.in_ok-place.place c.index.result.now) c.self.invariant.1 c.index.ensures in
+    subst (λ ns. c.index.result.now ≡ get_or ns c.in_ok-place.place c.index.result.now) c.self.invariant.1.owning c.index.ensures in
     let number : suc c.in_ok-place.place ≡ c.args.element = omega (arith, c.in_ok-place.ensures.0, c.in_ok-place.ensures.1) in
     subst (λ v. Owns v c.args.element c.index.result.now) c.self.view_is
     (subst (λ e. Owns d e c.index.result.now) number (owner_read d c.self.invariant.0.owned c.in_ok-place.place c.index.result.now lt read))

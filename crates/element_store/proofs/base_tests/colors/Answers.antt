@@ -1,7 +1,0 @@
-use Rattle.std.proofs.Common.{sym, subst}
-use Rattle.element_store.specs.Condition.{IsModel}
-use Rattle.element_store.specs.Worked.{colors_are_models}
-use Rattle.element_store.proofs.base_tests.colors.Goals as goal
-
-pub of-requires : goal.of-requires
-of-requires c = subst IsModel (sym c.in_ok-color_parts.ensures) (colors_are_models c.args.file)

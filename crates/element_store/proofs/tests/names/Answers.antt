@@ -1,7 +1,0 @@
-use Rattle.std.proofs.Common.{sym, subst}
-use Rattle.element_store.specs.Condition.{IsModel}
-use Rattle.element_store.specs.Worked.{names_are_a_model}
-use Rattle.element_store.proofs.tests.names.Goals as goal
-
-pub of-requires : goal.of-requires
-of-requires c = subst IsModel (sym c.in_ok-names_parts.ensures) names_are_a_model

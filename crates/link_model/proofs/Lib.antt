@@ -1,0 +1,10 @@
+pub mod TameLaws
+pub mod RuleLaws
+pub mod FitLaws
+pub mod LinkLaws
+pub mod EditLaws
+pub mod ArrivalLaws
+pub mod InheritedLaws
+pub mod SettledLaws
+pub mod KeptLinks
+pub mod OrderLemmas

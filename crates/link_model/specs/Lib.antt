@@ -1,0 +1,12 @@
+pub mod Keys
+pub mod Outside
+pub mod Readers
+pub mod Names
+pub mod Inheritance
+pub mod Imports
+pub mod Lexical
+pub mod Asking
+pub mod Linking
+pub mod Settled
+pub mod Edits
+pub mod Written

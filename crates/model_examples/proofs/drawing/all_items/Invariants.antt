@@ -1,0 +1,6 @@
+-- The rows that were seen are drawn.
+use Rattle.std.proofs.Common.{◌≡◌, map, take}
+use Rattle.model_examples.proofs.drawing.all_items.Given as goal
+
+abbrev pub invariant-loop-row : goal.invariant-loop-row
+invariant-loop-row l = l.made.items ≡ map (λ row. row.now) (take l.row-index l.rows)

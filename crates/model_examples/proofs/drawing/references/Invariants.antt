@@ -1,0 +1,7 @@
+-- The rows that were seen are drawn.
+use Rattle.std.proofs.Common.{◌≡◌, map, take}
+use Rattle.model_examples.specs.Drawn.{reference_of}
+use Rattle.model_examples.proofs.drawing.references.Given as goal
+
+abbrev pub invariant-loop-row : goal.invariant-loop-row
+invariant-loop-row l = l.made.items ≡ map reference_of (take l.row-index l.rows)

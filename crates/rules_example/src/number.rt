@@ -1,0 +1,11 @@
+ghost use Rattle.rules_example.specs.Numbers.{number_exact};
+
+use demand_core::Same;
+
+/// A key of the example: the place of its row, from 0.
+#[derive(Clone, Copy, PartialEq, Eq, Hash)]
+pub struct Number(pub usize);
+
+impl Same for Number {
+    ghost exact = { number_exact };
+}
