@@ -99,17 +99,10 @@ def terminals_in(alternatives, found):
 
 
 def lists():
-    """The lexer's lists of signs and of each language's reserved words."""
-    core = os.path.join(HERE, '..', 'crates', 'token_core')
-    with open(os.path.join(core, 'specs', 'Words.antt')) as text:
+    """The lexer's lists of signs and of each language's reserved words, as its definitions have them."""
+    with open(os.path.join(HERE, '..', 'crates', 'token_core', 'specs', 'Words.antt')) as text:
         parts = re.split(r'^(signs|words Kerml|words Sysml) =$', text.read(), flags=re.M)
-    found = {name: ''.join(re.findall(r'codes "([^"]*)"', rest)).split() for name, rest in zip(parts[1::2], parts[2::2])}
-    if any(found.values()):
-        return found
-    with open(os.path.join(core, 'src', 'words.rt')) as text:
-        statics = re.findall(r'static ([A-Z_]+): &\[u8\] =\s*b"([^"]*)"', text.read())
-    names = {'SIGNS': 'signs', 'KERML_WORDS': 'words Kerml', 'SYSML_WORDS': 'words Sysml'}
-    return {names[name]: re.sub(r'\\\s*', '', value).split() for name, value in statics}
+    return {name: ''.join(re.findall(r'codes "([^"]*)"', rest)).split() for name, rest in zip(parts[1::2], parts[2::2])}
 
 
 def terminals(language):

@@ -16,7 +16,7 @@ import sys
 import threading
 
 TOP = pathlib.Path(__file__).resolve().parent.parent
-TIMES = TOP / "docs" / "times.tsv"
+TIMES = pathlib.Path(os.environ.get("TIMES", TOP / "docs" / "times.tsv"))
 LOGS = TOP / ".git" / "gate"
 
 

@@ -1,5 +1,5 @@
 -- From what was forgotten to what may be settled again.
-use Rattle.std.proofs.Common.{◌≡◌, Bool, true, false, cond, List, [], ◌∷◌, refl, sym, ◌∙◌, ap, subst, inl, inr}
+use Rattle.std.proofs.Common.{◌≡◌, Bool, true, false, cond, List, [], refl, sym, ◌∙◌, ap, subst, inl, inr}
 use Rattle.std.specs.Prelude.{None, is_some, not, ◌&&◌, ◌||◌, ◌⊎◌}
 use Rattle.std.specs.List.{list_any}
 use Rattle.linker_base.specs.Members.{IsMember, SameMembers, IsExact}
@@ -11,7 +11,7 @@ use Rattle.demand_core.specs.Forgotten.{Direct, Through, is_held}
 use Rattle.demand_core.specs.Kept.{IsKept}
 use Rattle.demand_core.specs.Least.{least, cyclic_on, HoldsLeast}
 use Rattle.demand_core.specs.Rules.{Meaning, value_of, first_wait, IsLawful}
-use Rattle.demand_core.specs.Settled.{HasLooks, CanSettle}
+use Rattle.demand_core.specs.Settled.{CanSettle}
 use Rattle.demand_core.specs.Tables.{entry_of}
 use Rattle.demand_core.specs.declared.looks.Fact.{Fact}
 use Rattle.demand_core.specs.declared.looks.Fact.TheVariants.{Key}

@@ -115,7 +115,7 @@ impl<K: Same + Copy, T: Same + Copy> Readers<K, T> {
         }
     }
 
-    /// The keys that looked at a thing, each once, maybe among others.
+    /// The keys that looked at a thing, maybe among others.
     pub(crate) fn of(&self, thing: T) -> Result<Keys<K>, NoMemory>
         ensures { IfOk result (λ keys. (k : K) → is_reader K.eq T.eq self.now thing k ≡ true
             → IsMember keys k) }

@@ -58,7 +58,8 @@ module _ (count : ℕ) (w : World Number ℕ Number (λ _. List Pair)) where
   first_looks : (own : Number) (ps : List Pair) → LooksAmong (IsMember (numbers count)) (first_answer count own ps w)
   first_looks own [] = λ q m. absurd m
   first_looks own (p ∷ ps) =
-      looks_then (IsMember (numbers count)) (greater count p w) (λ v. cond (nat_eq v 0) (first_answer count own ps) (done v) w) (greater count p w).step (greater_looks p)
+      looks_then (IsMember (numbers count)) (greater count p w) (λ v. cond (nat_eq v 0) (first_answer count own ps) (done v) w) (greater count p w).step
+      (greater_looks p)
       (λ v. by_place v (nat_eq v 0) (first_looks own ps))
     where
       by_place : (v : ℕ) (b : Bool) → LooksAmong (IsMember (numbers count)) (first_answer count own ps w)

@@ -37,7 +37,8 @@ pub ambiguous_packages : answers_of []
     (Command.Put (codes "b.sysml") (codes "package P { }") ∷ Command.Put (codes "a.sysml") (codes "package P { }")
     ∷ Command.Put (codes "c.sysml") (codes "package Q { part def B :> P; }") ∷ Command.Links (codes "c.sysml") ∷ [])
     ≡ codes "put b.sysml elements 1 references 0\nput a.sysml elements 1 references 0\n"
-    ++ codes "put c.sysml elements 2 references 1\n1:27 subclass P -> ambiguous 1 a.sysml:1:1 b.sysml:1:1\nlinks c.sysml 1\n"
+    ++ codes "put c.sysml elements 2 references 1\n1:27 subclass P -> ambiguous 1 a.sysml:1:1 b.sysml:1:1\n"
+    ++ codes "links c.sysml 1\n"
 unfolding lexed lexed_within is_reserved package_of definitions_of definitions_within ranked digits
 ambiguous_packages = refl
 

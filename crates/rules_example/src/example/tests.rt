@@ -1,3 +1,7 @@
+ghost use Rattle.demand_core.specs.Again.{HoldsAll};
+ghost use Rattle.rules_example.specs.Example.{example_meaning};
+ghost use Rattle.rules_example.specs.Numbers.{same_number};
+
 use super::{Example, Pair};
 use crate::number::Number;
 use demand_core::{Answer, Counted, Engine, Fact, Steps};
@@ -206,27 +210,56 @@ fn agree(one: &Engine<Number, usize, Number>, other: &Engine<Number, usize, Numb
     true
 }
 
-/// Whether settling nine random rows, and again after one of them changed, says what rounds say,
-/// and asks each key at most as often as 2 and the keys at which it looks.
-fn instance_agrees(alloc: Global, seed: u32) -> Result<bool, NoMemory> {
-    let mut state = seed;
+/// Nine rows by the state.
+fn random_example(alloc: Global, state: &mut u32) -> Result<Example, NoMemory> {
     let mut example = Example::new(alloc);
     for _ in 0..9 {
-        example.push(random_row(alloc, &mut state)?)?;
+        example.push(random_row(alloc, state)?)?;
     }
-    let mut steps = Steps::new(Counted::new());
-    let mut engine = example.settle(seed % 2 == 0, &mut steps)?;
-    let first = agree(&engine, &example.solve(&mut Steps::new(Counted::new()))?);
-    let few = steps.ledger().count() <= 9 * 6;
-    let place = Number(next_random(&mut state) % 9);
-    let row = random_row(alloc, &mut state)?;
+    Ok(example)
+}
+
+/// Whether the engine says what rounds say anew.
+fn as_by_rounds(
+    example: &Example,
+    engine: &Engine<Number, usize, Number>,
+) -> Result<bool, NoMemory> {
+    let anew = example.solve(&mut Steps::new(Counted::new()))?;
+    Ok(agree(engine, &anew))
+}
+
+/// Whether the engine says what rounds say after one of nine rows changed, and asked each key that
+/// was forgotten at most as often as 2 and the keys at which it looks.
+fn change_agrees(
+    alloc: Global,
+    example: &mut Example,
+    engine: &mut Engine<Number, usize, Number>,
+    state: &mut u32,
+) -> Result<bool, NoMemory>
+    requires { HoldsAll same_number (example_meaning example.old) engine.old }
+{
+    let place = Number(next_random(state) % 9);
+    let row = random_row(alloc, state)?;
     if place.0 >= example.len() {
         return Ok(false);
     }
-    let mut more = Steps::new(Counted::new());
-    let gone = example.change(&mut engine, place, row, &mut more)?;
-    let again = agree(&engine, &example.solve(&mut Steps::new(Counted::new()))?);
-    Ok(first && few && again && more.ledger().count() <= gone.as_slice().len() as u64 * 6)
+    let mut steps = Steps::new(Counted::new());
+    let gone = example.change(engine, place, row, &mut steps)?;
+    let most = gone.as_slice().len() as u64;
+    Ok(as_by_rounds(example, engine)? && steps.ledger().count() / 6 <= most)
+}
+
+/// Whether settling nine random rows says what rounds say, and asks each key at most as often as 2
+/// and the keys at which it looks; and again after one of the rows changed.
+fn instance_agrees(alloc: Global, seed: u32) -> Result<bool, NoMemory> {
+    let mut state = seed;
+    let mut example = random_example(alloc, &mut state)?;
+    let mut steps = Steps::new(Counted::new());
+    let mut engine = example.settle(seed % 2 == 0, &mut steps)?;
+    if !as_by_rounds(&example, &engine)? || steps.ledger().count() > 54 {
+        return Ok(false);
+    }
+    change_agrees(alloc, &mut example, &mut engine, &mut state)
 }
 
 #[test]

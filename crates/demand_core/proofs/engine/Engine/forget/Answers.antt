@@ -1,8 +1,8 @@
-use Rattle.std.proofs.Common.{◌<◌, ◌≤◌, ◌≡◌, ◌∙◌, length, take, get_or, ap, subst, sym, arith}
+use Rattle.std.proofs.Common.{◌<◌, ◌≤◌, ◌∙◌, length, take, get_or, ap, subst, sym, arith}
 use Rattle.linker_base.proofs.MemberLaws.{get_member}
 use Rattle.demand_core.specs.Forgotten.{IsFollowed}
 use Rattle.demand_core.proofs.RoundsLaws.{exact_test, one_more}
-use Rattle.demand_core.proofs.ForgetLaws.{follow_none, follow_fact, follow_key, follow_short, follow_all, stale_held}
+use Rattle.demand_core.proofs.ForgetLaws.{follow_fact, follow_key, follow_short, follow_all, stale_held}
 use Rattle.demand_core.proofs.engine.Engine.forget.Goals as goal
 
 pub loop-fact-preserved : goal.loop-fact-preserved

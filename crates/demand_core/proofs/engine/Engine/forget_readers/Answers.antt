@@ -1,4 +1,4 @@
-use Rattle.std.proofs.Common.{take, ap, subst, sym, ◌∙◌}
+use Rattle.std.proofs.Common.{take, subst, sym, ◌∙◌}
 use Rattle.std.proofs.lemmas.List.{take_all}
 use Rattle.linker_base.specs.Members.{IsMember}
 use Rattle.demand_core.specs.Forgotten.{Forgets}
