@@ -1,5 +1,5 @@
--- Names, each with the members that stand under it, and whether they are the public members of the roots of files; after
--- KerML's resolution of names in the global namespace (8.2.3.5).
+-- Names, each with the members that stand under it, and whether they are the public members of the roots of files;
+-- after KerML's resolution of names in the global namespace (8.2.3.5).
 use Rattle.std.specs.Prelude.{◌≡◌, ℕ, nat_eq, List, [], Vec, Some, None, slice_get}
 use Rattle.std.specs.declared.alloc.Global.{Global}
 use Rattle.std.specs.Map.{lookup}

@@ -67,7 +67,8 @@ shown_by x f d (item.Import k) = []
 
 -- the public members of a model's root that bear x, in order
 abbrev pub roots_in : FileNo → Data → List ℕ → List MemberNo
-roots_in f d x = map (numbered f) (numbers_from 0 (λ m. nat_eq m.owner 0 && is_public m.visibility && bears x m) d.members)
+roots_in f d x =
+    map (numbered f) (numbers_from 0 (λ m. nat_eq m.owner 0 && is_public m.visibility && bears x m) d.members)
 
 -- those of a file that may have a model
 abbrev pub own_roots : FileNo → Option Data → List ℕ → List MemberNo

@@ -116,6 +116,15 @@ fn bearers_stand_in_the_order_of_files(rt: HostRuntime) {
             project: &[(2, 0), (2, 2), (3, 0), (3, 2), (0, 0), (0, 2)],
             library: &[(1, 0), (1, 2)],
         },
+    ];
+    for row in &rows {
+        assert!(rt; holds(rt.alloc(), row) == Some(true));
+    }
+}
+
+#[test]
+fn bearers_follow_the_changes(rt: HostRuntime) {
+    let rows = [
         Row {
             in_order: true,
             changes: &[(0, true), (1, true), (2, true), (1, false)],

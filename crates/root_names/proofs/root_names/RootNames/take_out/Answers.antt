@@ -21,4 +21,5 @@ returns-else-is_library c =
     let tables : Tables = record { project = c.self.inside.project; library = c.self.inside.library } in
     let before : AreRootsOf files tables = subst (λ (t : Tables). AreRootsOf files t) (sym c.self.view_is) c.requires.before in
     let project : s.0.library ≡ false = sym (c.is_library.ensures s.0 s.1) ∙ c.if-is_library.false in
-    project_out files c.args.file s.0 s.1 c.files.ensures.kept.names tables c.take_file-else-is_library.new.table project before c.take_file-else-is_library.ensures
+    project_out files c.args.file s.0 s.1 c.files.ensures.kept.names tables c.take_file-else-is_library.new.table project before
+    c.take_file-else-is_library.ensures
