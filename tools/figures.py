@@ -43,7 +43,8 @@ def main():
     rows = [(name, row(name, times)) for name in time_gate.crates()]
     out = ["| Crate | Code | Definitions | Proofs | Functions | Edits | Processor minutes |", "|---|---|---|---|---|---|---|"]
     for name, cells in rows:
-        out.append(f"| `{name}` | " + " | ".join(str(cell) for cell in cells[:5]) + f" | {cells[5] / 60:.1f} |")
+        minutes = f"{cells[5] / 60:.1f}" if cells[5] else "-"
+        out.append(f"| `{name}` | " + " | ".join(str(cell) for cell in cells[:5]) + f" | {minutes} |")
     sums = [sum(cells[i] for _, cells in rows) for i in range(6)]
     out.append("| all | " + " | ".join(str(cell) for cell in sums[:5]) + f" | {sums[5] / 60:.0f} |")
     page = PAGE.read_text()
