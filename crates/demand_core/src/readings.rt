@@ -78,7 +78,8 @@ impl<K: Same + Copy, T: Same + Copied> Readings<K, T> {
 
     /// The keys on whose lists the thing is, maybe among others.
     pub(crate) fn readers(&self, thing: &T) -> Result<Keys<K>, NoMemory>
-        ensures { IfOk result (λ keys. (k : K) → IsListed K.eq self.now k thing.now → IsMember keys k) }
+        ensures { IfOk result
+            (λ keys. (k : K) → IsListed K.eq self.now k thing.now → IsMember keys k) }
     {
         self.readers.of(thing)
     }

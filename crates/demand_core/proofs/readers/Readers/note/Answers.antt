@@ -37,7 +37,8 @@ returns-in_ok-insert-in-None-clause-ok g c =
     let same = g.T.PartialEq.eq in
     let map = c.get_mut.follows.lender-at-none in
     let is : map.entries ≡ c.args.self.now = ap (λ m. m.entries) c.get_mut.follows.holds-at-none ∙ c.self.view_is in
-    let none : entry_of same c.args.self.now c.args.thing.now ≡ None = sym (c.in-None.ensures.value ∙ ap (λ es. entry_of same es c.args.thing.now) c.self.view_is) in
+    let none : entry_of same c.args.self.now c.args.thing.now ≡ None =
+    sym (c.in-None.ensures.value ∙ ap (λ es. entry_of same es c.args.thing.now) c.self.view_is) in
     let second : c.in_ok-copied-in-None.field-0 ≡ c.args.thing.now = c.in_ok-copied-in-None.ensures in
     let sets = λ (q : g.row.T.Denot). c.in_ok-insert-in-None.ensures.updates.0 q
     ∙ (ap (λ t. update same (entry_of same map.entries) t (Some c.put-in-None.new.self) q) second

@@ -34,7 +34,8 @@ returns-in-None-clause-taken g c =
     let same = g.T.PartialEq.eq in
     let map = c.get_mut.follows.lender-at-none in
     let is : map.entries ≡ c.args.self.now = ap (λ m. m.entries) c.get_mut.follows.holds-at-none ∙ c.self.view_is in
-    let none : entry_of same c.args.self.now c.args.thing.now ≡ None = sym (c.in-None.ensures.value ∙ ap (λ es. entry_of same es c.args.thing.now) c.self.view_is) in
+    let none : entry_of same c.args.self.now c.args.thing.now ≡ None =
+    sym (c.in-None.ensures.value ∙ ap (λ es. entry_of same es c.args.thing.now) c.self.view_is) in
     λ t k. ap (λ es. is_reader g.K.PartialEq.eq same es t k) is
     ∙ reader_none g.K.PartialEq.eq (exact_test g.met.K.Same.exact g.met.K.Eq.laws) same (exact_test g.met.T.Same.exact g.met.T.Eq.laws) c.args.self.now
     c.args.thing.now c.args.key none t k
