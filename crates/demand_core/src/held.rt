@@ -6,7 +6,7 @@ ghost use Rattle.demand_core.specs.Tables.{entry_of, Sets};
 
 use crate::looks::{Fact, Looks};
 use crate::readings::Readings;
-use crate::same::Same;
+use crate::same::{Copied, Same};
 use crate::table::Table;
 use linker_base::NoMemory;
 use std::alloc::Global;
@@ -37,7 +37,7 @@ impl<K: Same, V, F: Same> Model for Held<K, V, F> {
     } };
 }
 
-impl<K: Same + Copy, V: Drop, F: Same + Copy> Held<K, V, F> {
+impl<K: Same + Copy, V: Drop, F: Same + Copied> Held<K, V, F> {
     /// Nothing. It takes no memory.
     pub(crate) fn new(alloc: Global) -> Self
         ensures { result ≡ record { table = []; cyclic = []; looks = []; stamps = []; asked = 0 } }

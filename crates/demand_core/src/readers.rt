@@ -6,7 +6,7 @@ ghost use Rattle.demand_core.specs.Readers.{is_reader};
 ghost use Rattle.demand_core.specs.Tables.{entry_of};
 
 use crate::keys::Keys;
-use crate::same::Same;
+use crate::same::{Copied, Same};
 use crate::table::Table;
 use linker_base::NoMemory;
 use std::alloc::Global;
@@ -30,7 +30,7 @@ impl<K: Same, T: Same> Model for Readers<K, T> {
     ghost view = { λ r. r.entries.entries };
 }
 
-impl<K: Same + Copy, T: Same + Copy> Readers<K, T> {
+impl<K: Same + Copy, T: Same + Copied> Readers<K, T> {
     /// No readers. It takes no memory.
     pub(crate) fn new(alloc: Global) -> Self
         ensures { result ≡ [] }
@@ -42,18 +42,18 @@ impl<K: Same + Copy, T: Same + Copy> Readers<K, T> {
     }
 
     /// Notes that a key looked at a thing. After `NoMemory` the readers are as they were.
-    fn note(&mut self, thing: T, key: K) -> Result<(), NoMemory>
+    fn note(&mut self, thing: &T, key: K) -> Result<(), NoMemory>
         ensures ok { OnOk result ((t : T) (k : K) → is_reader K.eq T.eq self.new t k
-            ≡ (T.eq thing t && K.eq key k || is_reader K.eq T.eq self.old t k)) }
+            ≡ (T.eq thing.now t && K.eq key k || is_reader K.eq T.eq self.old t k)) }
         ensures err { OnErr result ((t : T) (k : K)
             → is_reader K.eq T.eq self.new t k ≡ is_reader K.eq T.eq self.old t k) }
     {
-        match self.entries.get_mut(&thing) {
+        match self.entries.get_mut(thing) {
             Some(readers) => readers.put(key, ()),
             None => {
                 let mut readers = Table::new(self.alloc);
                 readers.put(key, ())?;
-                self.entries.insert(thing, readers)?;
+                self.entries.insert(thing.copied(self.alloc)?, readers)?;
                 Ok(())
             }
         }
@@ -67,36 +67,36 @@ impl<K: Same + Copy, T: Same + Copy> Readers<K, T> {
             → is_reader K.eq T.eq self.new t k ≡ true }
     {
         for thing in things {
-            self.note(*thing, key)?;
+            self.note(thing, key)?;
         }
         Ok(())
     }
 
     /// Takes a key out of the readers of a thing. Answers whether the thing has none left, though
     /// it had some.
-    fn take(&mut self, thing: T, key: K) -> bool
+    fn take(&mut self, thing: &T, key: K) -> bool
         ensures taken { (t : T) (k : K) → is_reader K.eq T.eq self.new t k
-            ≡ (not (T.eq thing t && K.eq key k) && is_reader K.eq T.eq self.old t k) }
-        ensures none { result ≡ true → (k : K) → is_reader K.eq T.eq self.new thing k ≡ false }
+            ≡ (not (T.eq thing.now t && K.eq key k) && is_reader K.eq T.eq self.old t k) }
+        ensures none { result ≡ true → (k : K) → is_reader K.eq T.eq self.new thing.now k ≡ false }
     {
-        match self.entries.get_mut(&thing) {
+        match self.entries.get_mut(thing) {
             Some(readers) => return take_out(readers, key),
             None => return false,
         }
     }
 
     /// Lets go what is kept of a thing.
-    fn let_go(&mut self, thing: T)
+    fn let_go(&mut self, thing: &T)
         ensures { (t : T)
-            → entry_of T.eq self.new t ≡ update T.eq (entry_of T.eq self.old) thing None t }
+            → entry_of T.eq self.new t ≡ update T.eq (entry_of T.eq self.old) thing.now None t }
     {
-        let _gone = self.entries.remove(&thing);
+        let _gone = self.entries.remove(thing);
     }
 
     /// Takes a key out of the readers of a thing.
-    fn remove(&mut self, thing: T, key: K)
+    fn remove(&mut self, thing: &T, key: K)
         ensures { (t : T) (k : K) → is_reader K.eq T.eq self.new t k
-            ≡ (not (T.eq thing t && K.eq key k) && is_reader K.eq T.eq self.old t k) }
+            ≡ (not (T.eq thing.now t && K.eq key k) && is_reader K.eq T.eq self.old t k) }
     {
         if self.take(thing, key) {
             self.let_go(thing);
@@ -111,16 +111,16 @@ impl<K: Same + Copy, T: Same + Copy> Readers<K, T> {
             → is_reader K.eq T.eq self.new t k ≡ is_reader K.eq T.eq self.old t k }
     {
         for thing in things {
-            self.remove(*thing, key);
+            self.remove(thing, key);
         }
     }
 
     /// The keys that looked at a thing, maybe among others.
-    pub(crate) fn of(&self, thing: T) -> Result<Keys<K>, NoMemory>
-        ensures { IfOk result (λ keys. (k : K) → is_reader K.eq T.eq self.now thing k ≡ true
+    pub(crate) fn of(&self, thing: &T) -> Result<Keys<K>, NoMemory>
+        ensures { IfOk result (λ keys. (k : K) → is_reader K.eq T.eq self.now thing.now k ≡ true
             → IsMember keys k) }
     {
-        match self.entries.get(&thing) {
+        match self.entries.get(thing) {
             Some(readers) => readers.keys(self.alloc),
             None => Ok(Keys::new(self.alloc)),
         }

@@ -7,7 +7,7 @@ ghost use Rattle.demand_core.specs.Tables.{entry_of, Sets};
 
 use crate::keys::Keys;
 use crate::readers::Readers;
-use crate::same::Same;
+use crate::same::{Copied, Same};
 use crate::table::Table;
 use linker_base::{Listing, NoMemory};
 use std::alloc::Global;
@@ -33,7 +33,7 @@ impl<K: Same, T: Same> Model for Readings<K, T> {
     ghost invariant = { λ r. AreRecorded K.eq T.eq r.lists r.readers };
 }
 
-impl<K: Same + Copy, T: Same + Copy> Readings<K, T> {
+impl<K: Same + Copy, T: Same + Copied> Readings<K, T> {
     /// No lists. It takes no memory.
     pub(crate) fn new(alloc: Global) -> Self
         ensures { result ≡ [] }
@@ -67,18 +67,19 @@ impl<K: Same + Copy, T: Same + Copy> Readings<K, T> {
     }
 
     /// Whether the thing is on the list of the key.
-    pub(crate) fn has(&self, key: K, thing: T) -> bool
-        ensures { IsTrue result ↔ IsListed K.eq self.now key thing }
+    pub(crate) fn has(&self, key: K, thing: &T) -> bool
+        ensures { IsTrue result ↔ IsListed K.eq self.now key thing.now }
     {
         match self.lists.get(key) {
-            Some(list) => is_among(&thing, list.as_slice()),
+            Some(list) => is_among(thing, list.as_slice()),
             None => false,
         }
     }
 
     /// The keys on whose lists the thing is, maybe among others.
-    pub(crate) fn readers(&self, thing: T) -> Result<Keys<K>, NoMemory>
-        ensures { IfOk result (λ keys. (k : K) → IsListed K.eq self.now k thing → IsMember keys k) }
+    pub(crate) fn readers(&self, thing: &T) -> Result<Keys<K>, NoMemory>
+        ensures { IfOk result
+            (λ keys. (k : K) → IsListed K.eq self.now k thing.now → IsMember keys k) }
     {
         self.readers.of(thing)
     }

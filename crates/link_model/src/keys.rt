@@ -1,8 +1,10 @@
 ghost use Rattle.std.proofs.Common.{refl};
 ghost use Rattle.link_model.specs.Keys.{key_exact, fact_exact};
 
-use demand_core::Same;
+use demand_core::{Copied, Same};
 use element_store::{ElementNo, FileNo, MemberNo, Name, RefNo};
+use linker_base::NoMemory;
+use std::alloc::Global;
 
 /// A reference, as the key of a table of links.
 #[derive(Clone, Copy, Debug, PartialEq, Eq, Hash)]
@@ -31,4 +33,16 @@ impl Same for LinkKey {
 
 impl Same for LinkFact {
     ghost exact = { fact_exact _ (λ a b. refl) (λ x y. refl) (λ a y. refl) (λ x b. refl) };
+}
+
+impl Copied for LinkFact {
+    fn copied(&self, alloc: Global) -> Result<Self, NoMemory> {
+        match self {
+            LinkFact::File(file) => Ok(LinkFact::File(*file)),
+            LinkFact::RootName(name) => {
+                let bytes = Vec::from_slice(alloc, name.bytes())?;
+                Ok(LinkFact::RootName(Name::of(bytes)))
+            }
+        }
+    }
 }

@@ -9,10 +9,10 @@ pub returns-in-Some : goal.returns-in-Some
 returns-in-Some g c =
     let at = reader_at g.K.PartialEq.eq (exact_test g.met.K.Same.exact g.met.K.Eq.laws) g.T.PartialEq.eq (exact_test g.met.T.Same.exact g.met.T.Eq.laws) in
     IfOk-weaker c.keys.result _ _
-    (λ keys all k is. all k tt (at c.args.self.now c.args.thing c.in-Some.readers.now k
-    (c.in-Some.ensures.value ∙ ap (λ es. entry_of g.T.PartialEq.eq es c.args.thing) c.self.view_is) is)) c.keys.ensures
+    (λ keys all k is. all k tt (at c.args.self.now c.args.thing.now c.in-Some.readers.now k
+    (c.in-Some.ensures.value ∙ ap (λ es. entry_of g.T.PartialEq.eq es c.args.thing.now) c.self.view_is) is)) c.keys.ensures
 
 pub returns-in-None : goal.returns-in-None
 returns-in-None g c k is =
     absurd (reader_nowhere g.K.PartialEq.eq (exact_test g.met.K.Same.exact g.met.K.Eq.laws) g.T.PartialEq.eq (exact_test g.met.T.Same.exact g.met.T.Eq.laws)
-    c.args.self.now c.args.thing k (c.in-None.ensures.value ∙ ap (λ es. entry_of g.T.PartialEq.eq es c.args.thing) c.self.view_is) is)
+    c.args.self.now c.args.thing.now k (c.in-None.ensures.value ∙ ap (λ es. entry_of g.T.PartialEq.eq es c.args.thing.now) c.self.view_is) is)
