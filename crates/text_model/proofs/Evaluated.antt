@@ -15,6 +15,7 @@ use Rattle.text_model.specs.SysmlActions.{sysml_actions}
 use Rattle.text_model.specs.SignMeanings.{sign_meanings}
 use Rattle.text_model.specs.KermlMeanings.{kerml_meanings}
 use Rattle.text_model.specs.SysmlMeanings.{sysml_meanings}
+use Rattle.text_model.specs.Languages.{grammar_of}
 use Rattle.text_model.specs.Tables.{tables}
 use Rattle.text_model.specs.Wholes.{are_wholes}
 use Rattle.text_model.specs.KermlWholes.{kerml_wholes}
@@ -28,7 +29,7 @@ use Rattle.text_model.specs.SysmlSlacks.{sysml_slacks}
 use Rattle.text_model.specs.Modes.{are_modes}
 use Rattle.text_model.specs.KermlModes.{kerml_modes}
 use Rattle.text_model.specs.SysmlModes.{sysml_modes}
-use Rattle.text_model.specs.ClaimLists.{grammar_of, wholes_of, roles_of, slacks_of, modes_of}
+use Rattle.text_model.specs.ClaimLists.{wholes_of, roles_of, slacks_of, modes_of}
 
 pub wholes_hold : (l : Language) → are_wholes (tables l) (wholes_of l) (grammar_of l) ≡ true
 unfolding grammar_of kerml_table kerml_rules kerml.sign kerml.word sysml_table sysml_rules sysml.sign sysml.word signs words tables kerml_actions

@@ -1,10 +1,7 @@
--- The grammar of each language, and the claims about its inner symbols.
+-- The claims about the inner symbols of each language's grammar.
 use Rattle.std.specs.Prelude.{ℕ, List}
 use Rattle.element_store.specs.declared.outcome.Language.{Language}
 use Rattle.element_store.specs.declared.outcome.Language.TheVariants.{Kerml, Sysml}
-use Rattle.ll_core.specs.Table.{Table}
-use Rattle.kerml_grammar.specs.Grammar.{kerml_table}
-use Rattle.sysml_grammar.specs.Grammar.{sysml_table}
 use Rattle.text_model.specs.Wholes.{Claim}
 use Rattle.text_model.specs.KermlWholes.{kerml_wholes}
 use Rattle.text_model.specs.SysmlWholes.{sysml_wholes}
@@ -16,10 +13,6 @@ use Rattle.text_model.specs.SysmlSlacks.{sysml_slacks}
 use Rattle.text_model.specs.Modes.{ModeClaim}
 use Rattle.text_model.specs.KermlModes.{kerml_modes}
 use Rattle.text_model.specs.SysmlModes.{sysml_modes}
-
-unfoldable pub grammar_of : Language → Table
-grammar_of Kerml = kerml_table
-grammar_of Sysml = sysml_table
 
 unfoldable pub wholes_of : Language → List Claim
 wholes_of Kerml = kerml_wholes

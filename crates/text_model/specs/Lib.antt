@@ -1,3 +1,4 @@
+pub mod Languages
 pub mod KermlActions
 pub mod SysmlActions
 pub mod SignMeanings
@@ -17,3 +18,7 @@ pub mod Modes
 pub mod KermlModes
 pub mod SysmlModes
 pub mod ClaimLists
+pub mod Drafts
+pub mod Walk
+pub mod Numbering
+pub mod Profile

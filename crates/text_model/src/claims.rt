@@ -1,11 +1,12 @@
 ghost use Rattle.std.specs.Prelude.{◌≡◌, true};
 ghost use Rattle.element_store.specs.declared.outcome.Language.{Language};
+ghost use Rattle.text_model.specs.Languages.{grammar_of};
 ghost use Rattle.text_model.specs.Tables.{tables};
 ghost use Rattle.text_model.specs.Wholes.{are_wholes};
 ghost use Rattle.text_model.specs.Roles.{are_roles};
 ghost use Rattle.text_model.specs.Slacks.{are_slacks};
 ghost use Rattle.text_model.specs.Modes.{are_modes};
-ghost use Rattle.text_model.specs.ClaimLists.{grammar_of, wholes_of, roles_of, slacks_of, modes_of};
+ghost use Rattle.text_model.specs.ClaimLists.{wholes_of, roles_of, slacks_of, modes_of};
 
 /// The claims about inner symbols hold of both grammars: what is one whole expression; which kinds and
 /// roles fit; that items are fewer than tokens, where a comment counts twice; and that no two items

@@ -1,0 +1,2 @@
+//! The model of each text within the profile is a model.
+#![tactic(auto)]
