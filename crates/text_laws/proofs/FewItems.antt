@@ -1,34 +1,21 @@
 -- A text has fewer items than bytes.
-use Rattle.std.proofs.Common.{◌≡◌, ℕ, zero, suc, ◌+◌, ◌<◌, ◌≤◌, Bool, true, false, ◌&&◌, List, [], ◌∷◌, ◌++◌, length, refl, ap, sym, subst, ◌∙◌, arith, length-append}
-use Rattle.std.specs.Prelude.{slice_get, nat_le, Option, Some, None}
+use Rattle.std.proofs.Common.{◌≡◌, ℕ, zero, suc, ◌+◌, ◌≤◌, true, List, [], ◌∷◌, ◌++◌, length, ap, subst, arith, length-append}
+use Rattle.std.specs.Prelude.{slice_get, nat_le, Some}
 use Rattle.std.proofs.lemmas.Bool.{leb-true}
-use Rattle.element_store.specs.declared.outcome.Language.TheVariants.{Kerml, Sysml}
-use Rattle.token_core.specs.declared.token.Token.{Token}
 use Rattle.ll_core.specs.declared.grammar.Symbol.{Symbol}
 use Rattle.ll_core.specs.declared.grammar.Symbol.TheVariants.{Terminal, Inner}
 use Rattle.ll_core.specs.Table.{Rule, Table}
 use Rattle.ll_core.specs.Derives.{Forest, Nothing, Token as Leaf, Node as Branch, IsDerivation, tokens}
-use Rattle.kerml_grammar.specs.Grammar.{kerml_table}
-use Rattle.sysml_grammar.specs.Grammar.{sysml_table}
 use Rattle.text_model.specs.declared.action.Action.{Action}
 use Rattle.text_model.specs.declared.action.Action.TheVariants as action
 use Rattle.text_model.specs.declared.action.Taking.{Taking}
 use Rattle.text_model.specs.declared.action.Taking.TheVariants as taking
 use Rattle.text_model.specs.declared.draft.Reading.{Reading}
-use Rattle.text_model.specs.Tables.{Tables, tables, action_at}
+use Rattle.text_model.specs.Tables.{Tables, action_at}
 use Rattle.text_model.specs.Walk.{Walk, Frame, owned_member, alias_member, import_of, saved, entered, given, left, taken, walk}
 use Rattle.text_model.specs.Slacks.{weight, weights, slack_at, slack_of, makes, all_slack}
-use Rattle.text_model.specs.KermlSlacks.{kerml_slacks}
-use Rattle.text_model.specs.SysmlSlacks.{sysml_slacks}
-use Rattle.text_laws.proofs.WalkCoherence.{alike_from}
-
-pub kerml_slack : all_slack (tables Kerml) kerml_slacks 0 kerml_table.rules ≡ true
-unfolding tables kerml_slacks kerml_table
-kerml_slack = refl
-
-pub sysml_slack : all_slack (tables Sysml) sysml_slacks 0 sysml_table.rules ≡ true
-unfolding tables sysml_slacks sysml_table
-sysml_slack = refl
+use Rattle.text_laws.proofs.CoherenceLaws.{alike_from}
+use Rattle.linker_base.proofs.Cases.{both_true}
 
 abbrev pub items_of : Walk → ℕ
 items_of w = length w.members + length w.imports
@@ -37,11 +24,7 @@ pub weights-append : (js ks : List ℕ) → weights (js ++ ks) ≡ weights js + 
 weights-append [] ks = omega arith
 weights-append (j ∷ js) ks = omega (arith, weights-append js ks)
 
-both_true : (a b : Bool) → (a && b) ≡ true → (a ≡ true) × (b ≡ true)
-both_true true b e = (refl, e)
-both_true false b e = cc
-
-rule_slack : (t : Tables) (claims : List ℕ) (n p : ℕ) (rs : List Rule) (r : Rule) → all_slack t claims n rs ≡ true → slice_get rs p ≡ Some r
+pub rule_slack : (t : Tables) (claims : List ℕ) (n p : ℕ) (rs : List Rule) (r : Rule) → all_slack t claims n rs ≡ true → slice_get rs p ≡ Some r
     → slack_at claims r.left + makes (action_at t (n + p)) ≤ slack_of claims r.right
 rule_slack t claims n p [] r ok at = cc
 rule_slack t claims n zero (x ∷ rs) r ok at =
@@ -49,8 +32,8 @@ rule_slack t claims n zero (x ∷ rs) r ok at =
     let b = both_true (nat_le (slack_at claims x.left + makes (action_at t n)) (slack_of claims x.right)) (all_slack t claims (suc n) rs) ok in
     let z : n ≡ n + 0 = omega arith in
     subst (λ k. slack_at claims r.left + makes (action_at t k) ≤ slack_of claims r.right) z
-      (subst (λ (y : Rule). slack_at claims y.left + makes (action_at t n) ≤ slack_of claims y.right) same
-          (leb-true (slack_at claims x.left + makes (action_at t n)) (slack_of claims x.right) b.0))
+    (subst (λ (y : Rule). slack_at claims y.left + makes (action_at t n) ≤ slack_of claims y.right) same
+    (leb-true (slack_at claims x.left + makes (action_at t n)) (slack_of claims x.right) b.0))
 rule_slack t claims n (suc p) (x ∷ rs) r ok at =
     let b = both_true (nat_le (slack_at claims x.left + makes (action_at t n)) (slack_of claims x.right)) (all_slack t claims (suc n) rs) ok in
     let z : suc n + p ≡ n + suc p = omega arith in
@@ -67,6 +50,16 @@ given_items taking.ReferenceSubsetting f r w = omega arith
 given_items taking.Bounds f r w = omega arith
 given_items taking.Value f r w = omega arith
 given_items taking.Result f r w = omega arith
+
+-- an action at its beginning and its end makes so many items
+pub node_items_less : (a : Action) (w v : Walk) (more less : ℕ) → items_of v + less ≤ items_of (entered a w) + more
+    → items_of (left a (saved a w) v) + less ≤ items_of w + makes a + more
+node_items_less (action.Element k) w v more less h = omega (arith, h, length-append w.members (owned_member w ∷ []))
+node_items_less (action.Take d) w v more less h = omega (arith, h, given_items d (saved (action.Take d) w) v.reading (record v { reading = w.reading }))
+node_items_less action.NamedEnd w v more less h = omega (arith, h)
+node_items_less action.Level w v more less h = omega (arith, h)
+node_items_less action.Tail w v more less h = omega (arith, h)
+node_items_less other w v more less h = omega (arith, h)
 
 pub walk_items : (t : Tables) (claims : List ℕ) (text : List ℕ) (g : Table) → all_slack t claims 0 g.rules ≡ true
     → (f : Forest) (ss : List Symbol) (a : Action) (w : Walk) → IsDerivation g ss f
@@ -91,17 +84,9 @@ walk_items t claims text g ok (Branch p below f) (Inner c ∷ ss) a w d =
     let v = walk t text b below (entered b w) in
     let zero_add : 0 + p ≡ p = omega arith in
     let slack : slack_at claims c + makes b ≤ slack_of claims r.right =
-        subst (λ y. slack_at claims y + makes b ≤ slack_of claims r.right) d.0.2
-            (subst (λ q. slack_at claims r.left + makes (action_at t q) ≤ slack_of claims r.right) zero_add (rule_slack t claims 0 p g.rules r ok d.0.1)) in
+    subst (λ y. slack_at claims y + makes b ≤ slack_of claims r.right) d.0.2
+    (subst (λ q. slack_at claims r.left + makes (action_at t q) ≤ slack_of claims r.right) zero_add (rule_slack t claims 0 p g.rules r ok d.0.1)) in
     let i = walk_items t claims text g ok below r.right b (entered b w) d.0.3 in
     let n = node_items_less b w v (weights (tokens below)) (slack_of claims r.right) i in
     let after = walk_items t claims text g ok f ss a (left b (saved b w) v) d.1 in
-    omega (arith, slack, n, after, weights-append (tokens below) (tokens f)) where
-      node_items_less : (a : Action) (w v : Walk) (more less : ℕ) → items_of v + less ≤ items_of (entered a w) + more
-          → items_of (left a (saved a w) v) + less ≤ items_of w + makes a + more
-      node_items_less (action.Element k) w v more less h = omega (arith, h, length-append w.members (owned_member w ∷ []))
-      node_items_less (action.Take d) w v more less h = omega (arith, h, given_items d (saved (action.Take d) w) v.reading (record v { reading = w.reading }))
-      node_items_less action.NamedEnd w v more less h = omega (arith, h)
-      node_items_less action.Level w v more less h = omega (arith, h)
-      node_items_less action.Tail w v more less h = omega (arith, h)
-      node_items_less other w v more less h = omega (arith, h)
+    omega (arith, slack, n, after, weights-append (tokens below) (tokens f))

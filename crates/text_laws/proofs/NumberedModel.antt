@@ -1,15 +1,13 @@
 -- The numbering of sound drafts is the model of a file, and every walk over every forest is shaped.
-use Rattle.std.proofs.Common.{◌≡◌, ℕ, zero, suc, ◌+◌, ◌<◌, ◌≤◌, ◌^◌, Bool, true, false, nat_eq, List, [], ◌∷◌, ◌++◌, length, refl, ap, sym, subst, ◌∙◌, arith, length-append}
-use Rattle.std.specs.Prelude.{map, drop, slice_get, Option, Some, None}
-use Rattle.std.specs.List.{flat_map}
+use Rattle.std.proofs.Common.{◌≡◌, ℕ, suc, ◌+◌, ◌<◌, ◌≤◌, ◌^◌, Bool, true, false, nat_eq, List, [], ◌∷◌, ◌++◌, length, refl, ap, sym, ◌∙◌, arith}
+use Rattle.std.specs.Prelude.{map, drop, slice_get, None}
 use Rattle.std.proofs.lemmas.List.{length-map}
 use Rattle.element_store.specs.declared.numbers.FileNo.{FileNo}
 use Rattle.element_store.specs.declared.outcome.Language.{Language}
-use Rattle.element_store.specs.declared.kind.Kind.TheVariants.{Root}
 use Rattle.element_store.specs.declared.lists.Item.{Item}
 use Rattle.element_store.specs.declared.lists.Item.TheVariants as item
 use Rattle.element_store.specs.Numbers.{numbers_from, chosen}
-use Rattle.element_store.specs.Model.{member_number, import_number, members_in, imports_in}
+use Rattle.element_store.specs.Model.{members_in, imports_in}
 use Rattle.element_store.specs.Condition.{is_few, all_few, IsModel, IsPreorder, Trees, owners_in}
 use Rattle.token_core.specs.declared.token.Token.{Token}
 use Rattle.ll_core.specs.Derives.{Forest}
@@ -20,19 +18,19 @@ use Rattle.text_model.specs.declared.draft.DraftTarget.TheVariants.{Owned, Alias
 use Rattle.text_model.specs.declared.draft.DraftMember.{DraftMember}
 use Rattle.text_model.specs.declared.draft.DraftImport.{DraftImport}
 use Rattle.text_model.specs.Tables.{Tables}
-use Rattle.text_model.specs.Drafts.{draft}
 use Rattle.text_model.specs.Walk.{Walk, walk}
 use Rattle.text_model.specs.Profile.{start}
-use Rattle.text_laws.specs.Coherent.{stock, Stock, Holds, EachFrom, Owner, owner_by, owners_by, owners_from, IsCoherent}
-use Rattle.text_laws.specs.Fits.{Every, DraftFits, WalkFits}
+use Rattle.linker_base.proofs.Cases.{and_true}
+use Rattle.text_laws.specs.Coherent.{stock, Stock, Holds, EachFrom, owner_by, owners_by, owners_from, IsCoherent}
+use Rattle.text_laws.specs.Fits.{WalkFits}
 use Rattle.text_model.specs.Numbering.{width, member, import_of, elements_from, references_from, model_of}
 use Rattle.text_laws.specs.Sound.{IsShaped, IsDerived}
-use Rattle.text_laws.proofs.WalkCoherence.{walk_on}
-use Rattle.text_laws.proofs.Preorder.{walk_grows}
-use Rattle.text_laws.proofs.WalkFits.{walk_fits}
-use Rattle.text_laws.proofs.ByElement.{by_element_is}
-use Rattle.text_laws.proofs.ModelParts.{few_from, both_pass, elements_long, references_placed, values_placed, results_placed, values_few, results_few, owned_once, has_root, items_members, items_imports, all_paths, all_whole, all_contexts, elements_owners}
-use Rattle.text_laws.proofs.Ranges.{in_range}
+use Rattle.text_laws.proofs.CoherenceLaws.{walk_on}
+use Rattle.text_laws.proofs.PreorderLaws.{walk_grows}
+use Rattle.text_laws.proofs.FittingLaws.{walk_fits}
+use Rattle.text_laws.proofs.ByElementLaws.{by_element_is}
+use Rattle.text_laws.proofs.PartLaws.{few_from, elements_long, references_placed, values_placed, results_placed, values_few, results_few, owned_once, has_root, items_members, items_imports, all_paths, all_whole, all_contexts, elements_owners}
+use Rattle.text_laws.proofs.RangeLaws.{in_range}
 
 numbers_few : {A : Type 0} (test : A → Bool) (n : ℕ) (xs : List A) → length (numbers_from n test xs) ≤ length xs
 numbers_few test n [] = omega arith
@@ -50,7 +48,7 @@ items_few : (ms : List DraftMember) (is : List DraftImport) (e : ℕ) (ds : List
     → EachFrom (Holds ms is) e (map stock ds) → all_few (map (λ d. d.items) ds) ≡ true
 items_few ms is e [] few h = refl
 items_few ms is e (d ∷ ds) few h =
-    both_pass (is_few (length d.items)) (all_few (map (λ d. d.items) ds))
+    and_true (is_few (length d.items)) (all_few (map (λ d. d.items) ds))
     (few_from (length d.items) (omega (
       arith,
       few,
@@ -122,19 +120,24 @@ is_model file language w all rest s d =
 
 -- the walk over any forest, from a file's beginning, is shaped; the number of its tokens bounds it
 pub is_shaped : (t : Tables) (text : List ℕ) (a : Action) (f : Forest) (tokens : List Token) → (rest : ℕ)
-    × IsShaped (walk t text a f (start tokens)) (length tokens + 1) rest
+    × IsShaped (walk t text a f (start tokens)) (length tokens) rest
 is_shaped t text a f tokens =
     let w = start tokens in
     let v = walk t text a f w in
-    let c : IsCoherent w = record { current = omega arith; owners = refl; each = (record { members = refl; imports = refl; within = tt; inner = refl }, tt);
-        members = tt; imports = tt } in
-    let fits : WalkFits (length tokens + 1) (length tokens + 1) w = record {
+    let c : IsCoherent w = record {
+      current = omega arith;
+      owners = refl;
+      each = (record { members = refl; imports = refl; within = tt; inner = refl }, tt);
+      members = tt;
+      imports = tt;
+    } in
+    let fits : WalkFits (length tokens) (length tokens) w = record {
       drafts = (record { own = tt; specs = tt; bounds = tt; value = tt; result = tt; inner = tt; short_value = omega arith; short_result = omega arith }, tt);
       reading = record { nodes = tt; short = omega arith };
       rest = omega arith;
     } in
     let g = walk_grows t text a f w in
-    let p = walk_fits (length tokens + 1) (length tokens + 1) t text a f w (omega arith) fits in (
+    let p = walk_fits (length tokens) (length tokens) t text a f w (omega arith) fits in (
       length v.rest,
       record {
         coherent = (walk_on t text a f w c).coherent;

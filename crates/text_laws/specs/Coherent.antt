@@ -1,5 +1,5 @@
 -- What holds of every walk over every forest: who owns and holds what.
-use Rattle.std.specs.Prelude.{◌≡◌, ℕ, zero, suc, ◌<◌, nat_eq, Option, Some, None, List, [], ◌∷◌, ◌++◌, length, map, slice_get}
+use Rattle.std.specs.Prelude.{◌≡◌, ℕ, suc, ◌<◌, nat_eq, Option, Some, None, List, [], ◌∷◌, length, map, slice_get}
 use Rattle.std.specs.List.{flat_map}
 use Rattle.element_store.specs.declared.outcome.Role.{Role}
 use Rattle.element_store.specs.declared.outcome.Role.TheVariants as role

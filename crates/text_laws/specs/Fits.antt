@@ -1,7 +1,6 @@
 -- What holds of every walk over every forest: no name is without a segment, no name and no expression is longer than
--- the text has
--- tokens, and a specialisation's role is one of an element's own.
-use Rattle.std.specs.Prelude.{◌≡◌, ℕ, ◌+◌, ◌≤◌, true, Option, Some, None, List, [], ◌∷◌, length}
+-- the text has tokens, and a specialisation's role is one of an element's own.
+use Rattle.std.specs.Prelude.{◌≡◌, ℕ, ◌+◌, ◌-◌, ◌≤◌, suc, true, Option, Some, None, List, [], ◌∷◌, length}
 use Rattle.element_store.specs.Condition.{is_own}
 use Rattle.text_model.specs.declared.draft.Path.{Path}
 use Rattle.text_model.specs.declared.draft.Mention.{Mention}
@@ -23,6 +22,11 @@ pub record PathFits (all rest : ℕ) (p : Path) : Type 0 where
   pub some : 1 ≤ length p.path
   pub short : length p.path + length p.chain + rest ≤ all
 
+-- a name of an alias or an import, which has a segment even where no token was read
+pub record NameFits (all : ℕ) (p : Path) : Type 0 where
+  pub some : 1 ≤ length p.path
+  pub short : length p.path + length p.chain ≤ suc (all - 1)
+
 abbrev pub WhatFits : ℕ → ℕ → What → Type 0
 WhatFits all rest (what.Named p) = PathFits all rest p
 WhatFits all rest other = Unit {0}
@@ -40,7 +44,7 @@ pub record DraftFits (all rest : ℕ) (d : Draft) : Type 0 where
   pub bounds : NodesFit all rest d.bounds
   pub value : NodesFit all rest (nodes_of d.value)
   pub result : NodesFit all rest (nodes_of d.result)
-  pub inner : Every (λ m. PathFits all rest m.path) d.inner
+  pub inner : Every (λ m. NameFits all m.path) d.inner
   pub short_value : length (nodes_of d.value) + rest ≤ all
   pub short_result : length (nodes_of d.result) + rest ≤ all
 
@@ -56,4 +60,4 @@ pub record ReadingFits (most all rest : ℕ) (r : Reading) : Type 0 where
 pub record WalkFits (most all : ℕ) (w : Walk) : Type 0 where
   pub drafts : Every (DraftFits all (length w.rest)) w.elements
   pub reading : ReadingFits most all (length w.rest) w.reading
-  pub rest : length w.rest + 1 ≤ all
+  pub rest : length w.rest ≤ all

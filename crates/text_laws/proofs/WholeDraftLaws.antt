@@ -1,11 +1,9 @@
 -- Each value and each result of a walk over a derivation is one whole expression.
-use Rattle.std.proofs.Common.{◌≡◌, ℕ, zero, suc, ◌+◌, Bool, true, false, List, [], ◌∷◌, ◌++◌, length, refl, ap, sym, subst, ◌∙◌, arith, append_assoc}
-use Rattle.std.specs.Prelude.{Option, Some, None}
+use Rattle.std.proofs.Common.{◌≡◌, ℕ, ◌+◌, true, List, [], ◌∷◌, ◌++◌, length, refl, ap, sym, subst, ◌∙◌, arith, append_assoc}
+use Rattle.std.specs.Prelude.{Some, None}
 use Rattle.std.specs.Option.{option_map_or}
-use Rattle.element_store.specs.declared.kind.Kind.{Kind}
-use Rattle.element_store.specs.declared.outcome.Role.TheVariants as role
 use Rattle.element_store.specs.declared.lists.Item.TheVariants as item
-use Rattle.element_store.specs.Expressions.{is_whole, is_one, stand}
+use Rattle.element_store.specs.Expressions.{is_whole, is_one}
 use Rattle.token_core.specs.declared.token.Token.{Token}
 use Rattle.token_core.specs.Reading.{bytes_of, name_meaning}
 use Rattle.ll_core.specs.declared.grammar.Symbol.{Symbol}
@@ -20,17 +18,16 @@ use Rattle.text_model.specs.declared.action.Operator.{Operator}
 use Rattle.text_model.specs.declared.action.Meaning.{Meaning}
 use Rattle.text_model.specs.declared.action.Meaning.TheVariants as meaning
 use Rattle.text_model.specs.declared.draft.Draft.{Draft}
-use Rattle.text_model.specs.declared.draft.DraftExpr.{DraftExpr}
 use Rattle.text_model.specs.declared.draft.Reading.{Reading}
 use Rattle.text_model.specs.Tables.{Tables, action_at, meaning_of}
-use Rattle.text_model.specs.Drafts.{draft, names, first_name}
-use Rattle.text_model.specs.Walk.{Walk, Frame, saved, changed, with_item, with_inner, entered, given, left, named, expression, meant, meant_name, meant_operator, taken, taken_from, walk}
+use Rattle.text_model.specs.Drafts.{draft}
+use Rattle.text_model.specs.Walk.{Walk, Frame, saved, changed, with_item, entered, given, left, named, expression, meant, meant_name, meant_operator, taken, taken_from, walk}
 use Rattle.text_model.specs.Numbering.{numbered, numbered_in}
 use Rattle.text_laws.specs.Fits.{Every}
 use Rattle.text_laws.specs.Sound.{IsWholeDraft}
-use Rattle.text_model.specs.Wholes.{Claim, Free, Effect, effect, effects, is_free, takes_whole, are_wholes}
-use Rattle.text_laws.proofs.WalkFits.{every_append, every_adjusted, rest_left}
-use Rattle.text_laws.proofs.Whole.{Stands, stand_in, stand_numbered, IsAt, walk_at, at_taken, at_same, rest_entered, rule_meets, free_effect, walk_stands}
+use Rattle.text_model.specs.Wholes.{Claim, Free, effect, effects, takes_whole, are_wholes}
+use Rattle.text_laws.proofs.FittingLaws.{every_append, every_adjusted, rest_entered, rest_left}
+use Rattle.text_laws.proofs.WholeLaws.{Stands, stand_numbered, IsAt, walk_at, at_taken, at_same, rule_meets, free_effect, walk_stands}
 
 whole_expression : (r : Reading) → Stands 0 None (effect 1 Free) r → (n : ℕ) → is_whole (numbered n r.nodes) ≡ true
 whole_expression r h n = ap is_one (stand_numbered n r.nodes (Some 0) ∙ h.nodes)
@@ -107,7 +104,7 @@ whole_left other f w g h = h
 gives_whole : (t : Tables) (claims : List Claim) (text : List ℕ) (g : Table) → are_wholes t claims g ≡ true
     → (d : Taking) (ss : List Symbol) (below : Forest) (ks : List ℕ) (w : Walk)
     → takes_whole t claims (action.Take d) ss ≡ true → IsDerivation g ss below → IsAt (tokens below ++ ks) w
-        → GivesWhole d (walk t text (action.Take d) below (entered (action.Take d) w)).reading
+    → GivesWhole d (walk t text (action.Take d) below (entered (action.Take d) w)).reading
 gives_whole t claims text g ok taking.Value ss below ks w takes der at =
     let e = free_effect 1 (effects t claims (action.Take taking.Value) ss (Some (effect 0 Free))) takes in
     whole_expression (walk t text (action.Take taking.Value) below (entered (action.Take taking.Value) w)).reading
@@ -136,12 +133,12 @@ walk_whole t claims text g ok (Branch p below f) (Inner c ∷ ss) a ks w d at h 
     let v = walk t text b below (entered b w) in
     let zero_add : 0 + p ≡ p = omega arith in
     let takes : takes_whole t claims b r.right ≡ true = subst (λ q. takes_whole t claims (action_at t q) r.right ≡ true) zero_add
-        (rule_meets t claims 0 p g.rules r ok d.0.1).1 in
+    (rule_meets t claims 0 p g.rules r ok d.0.1).1 in
     let here : IsAt (tokens below ++ (tokens f ++ ks)) w = record { kinds = at.kinds ∙ append_assoc (tokens below) (tokens f) ks; numbers = at.numbers } in
     let begun = at_same (tokens below ++ (tokens f ++ ks)) w (entered b w) (rest_entered b w) here in
     let i = walk_whole t claims text g ok below r.right b (tokens f ++ ks) (entered b w) d.0.3 begun (whole_entered b w h) in
     let l = whole_left b (saved b w) v (λ x same. subst (λ y. GivesWhole x (walk t text y below (entered y w)).reading) (sym same)
     (gives_whole t claims text g ok x r.right below (tokens f ++ ks) w (subst (λ y. takes_whole t claims y r.right ≡ true) same takes) d.0.3 here)) i in
     let after : IsAt (tokens f ++ ks) (left b (saved b w) v) =
-        at_same (tokens f ++ ks) v (left b (saved b w) v) (rest_left b (saved b w) v) (walk_at t text b below (tokens f ++ ks) (entered b w) begun) in
+    at_same (tokens f ++ ks) v (left b (saved b w) v) (rest_left b (saved b w) v) (walk_at t text b below (tokens f ++ ks) (entered b w) begun) in
     walk_whole t claims text g ok f ss a ks (left b (saved b w) v) d.1 after l

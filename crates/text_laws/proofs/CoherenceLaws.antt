@@ -1,6 +1,6 @@
 -- Every walk over every forest is coherent.
-use Rattle.std.proofs.Common.{◌≡◌, ℕ, zero, suc, ◌+◌, ◌<◌, ◌≤◌, List, [], ◌∷◌, ◌++◌, length, refl, ap, sym, subst, ◌∙◌, arith, length-append}
-use Rattle.std.specs.Prelude.{map, slice_get, Option, Some, None}
+use Rattle.std.proofs.Common.{◌≡◌, ℕ, zero, suc, ◌<◌, ◌≤◌, List, [], ◌∷◌, ◌++◌, length, refl, ap, sym, subst, ◌∙◌, arith, length-append}
+use Rattle.std.specs.Prelude.{map, slice_get, Some}
 use Rattle.std.proofs.lemmas.List.{map-append, length-map}
 use Rattle.element_store.specs.declared.outcome.Role.{Role}
 use Rattle.element_store.specs.declared.outcome.Role.TheVariants as role
@@ -8,7 +8,7 @@ use Rattle.element_store.specs.declared.lists.Item.TheVariants as item
 use Rattle.token_core.specs.declared.token.Token.{Token}
 use Rattle.ll_core.specs.Derives.{Forest, Nothing, Token as Leaf, Node}
 use Rattle.text_model.specs.declared.action.Action.{Action}
-use Rattle.text_model.specs.declared.action.Action.TheVariants.{Group, Name, Short, Segment, Step, Star, NamedEnd, Element, Take, Level, Tail}
+use Rattle.text_model.specs.declared.action.Action.TheVariants.{Name, Short, Segment, Step, Star, NamedEnd, Element, Take, Level, Tail}
 use Rattle.text_model.specs.declared.action.Taking.{Taking}
 use Rattle.text_model.specs.declared.action.Taking.TheVariants as taking
 use Rattle.text_model.specs.declared.action.Operator.{Operator}
@@ -19,11 +19,11 @@ use Rattle.text_model.specs.declared.draft.Reading.{Reading}
 use Rattle.text_model.specs.declared.draft.DraftTarget.TheVariants.{Owned, Alias}
 use Rattle.text_model.specs.Tables.{Tables, action_at, meaning_of}
 use Rattle.text_model.specs.Drafts.{draft, names, first_name, path_or, mention, mentions, adjusted, inner_at, marked, definition_of}
-use Rattle.text_model.specs.Walk.{Walk, Frame, saved, changed, reads, with_item, with_inner, owned_member, entered, specialised, alias_member, import_of, expression, named, given, left, meant_name, meant_operator, meant, taken_from, taken, walk, comment_meaning}
-use Rattle.token_core.specs.Reading.{bytes_of, name_meaning, number_from}
+use Rattle.text_model.specs.Walk.{Walk, Frame, saved, changed, with_item, with_inner, owned_member, entered, specialised, alias_member, import_of, expression, named, given, left, meant_name, meant_operator, meant, taken_from, taken, walk, comment_meaning}
+use Rattle.token_core.specs.Reading.{bytes_of, name_meaning}
 use Rattle.text_laws.specs.Coherent.{Stock, stock, AreCoherent, IsCoherent}
-use Rattle.text_laws.proofs.Lists.{length-adjusted, map-adjusted, map-adjusted_same}
-use Rattle.text_laws.proofs.Coherence.{with_owned, with_held, bare, element_step, alias_step, import_step}
+use Rattle.text_laws.proofs.ListLemmas.{length-adjusted, map-adjusted, map-adjusted_same}
+use Rattle.text_laws.proofs.CoherenceSteps.{with_owned, with_held, bare, element_step, alias_step, import_step}
 
 -- Steps that touch neither owning nor holding.
 
@@ -93,16 +93,20 @@ entered_on (Element k) w h =
     let len : length (map stock w.elements) ≡ length w.elements = length-map w.elements stock in
     let s = element_step (map stock w.elements) w.members w.imports (owned_member w) (ap Owned (sym len)) h in
     let stocks : map stock (es ++ draft k (Some w.current) ∷ []) ≡ adjusted w.current (with_owned (length w.members)) (map stock w.elements)
-        ++ bare w.current ∷ [] =
+    ++ bare w.current ∷ [] =
     map-append stock es (draft k (Some w.current) ∷ [])
     ∙ ap (λ ss. ss ++ bare w.current ∷ []) (map-adjusted stock (with_owned (length w.members)) w.current (with_item (item.Member (length w.members))) w.elements
-        (λ d. refl)) in
+    (λ d. refl)) in
     record {
       coherent = subst (λ ss. AreCoherent ss (w.members ++ owned_member w ∷ []) w.imports (length w.elements)) (sym stocks)
           (subst (λ n. AreCoherent (adjusted w.current (with_owned (length w.members)) (map stock w.elements) ++ bare w.current ∷ [])
-              (w.members ++ owned_member w ∷ []) w.imports n) len s);
-      longer = omega (arith, length-append es (draft k (Some w.current) ∷ []), length-adjusted w.current
-          (with_item (item.Member (length w.members))) w.elements);
+          (w.members ++ owned_member w ∷ []) w.imports n) len s);
+      longer = omega (
+        arith,
+        length-append es (draft k (Some w.current) ∷ []),
+        length-adjusted w.current
+            (with_item (item.Member (length w.members))) w.elements,
+      );
     }
 entered_on (Take d) w h = goes_alike w (entered (Take d) w) (record { stocks = refl; members = refl; imports = refl; current = refl }) h
 entered_on NamedEnd w h = goes_alike w (entered NamedEnd w) (record { stocks = refl; members = refl; imports = refl; current = refl }) h

@@ -22,23 +22,23 @@ use Rattle.text_model.specs.declared.action.Meaning.{Meaning}
 use Rattle.text_model.specs.declared.action.Meaning.TheVariants as meaning
 use Rattle.text_model.specs.declared.draft.Seen.{Seen}
 use Rattle.text_model.specs.declared.draft.Path.{Path}
-use Rattle.text_model.specs.declared.draft.Draft.{Draft}
 use Rattle.text_model.specs.declared.draft.Reading.{Reading}
 use Rattle.text_model.specs.Tables.{Tables, action_at, meaning_of}
 use Rattle.text_model.specs.Drafts.{draft, names, first_name, path_or, adjusted}
-use Rattle.text_model.specs.Walk.{Walk, Frame, begun_place, next_place, fresh, with_item, with_inner, owned_member, alias_member, import_of, saved, entered, given, left, named, meant, meant_name, meant_operator, taken, taken_from, walk}
+use Rattle.text_model.specs.Walk.{Walk, Frame, begun_place, fresh, with_item, with_inner, owned_member, alias_member, import_of, saved, entered, given, left, named, meant, meant_name, meant_operator, taken, taken_from, walk}
 use Rattle.text_model.specs.Profile.{kinds_of}
-use Rattle.text_laws.specs.Coherent.{Stock, stock, IsCoherent}
+use Rattle.text_laws.specs.Coherent.{stock, IsCoherent}
 use Rattle.text_laws.specs.Fits.{Every}
 use Rattle.text_model.specs.Wholes.{meaning_at}
 use Rattle.text_model.specs.Modes.{Mode, Clear, Used, ModeClaim, mode_claim_at, is_used, mode_after, is_visibility, token_mode, modes, are_quiet, is_clear, item_mode, held_mode, production_mode, makes_none, is_freer, meets_mode, all_modes}
-use Rattle.text_laws.proofs.Lists.{map-adjusted, map-adjusted_same}
-use Rattle.text_laws.proofs.Coherence.{with_owned, with_held, bare}
-use Rattle.text_laws.proofs.WalkCoherence.{IsAlike, alike_coherent, alike_from, entered_on, walk_on, left_on, role_push}
-use Rattle.text_laws.proofs.WalkFits.{every_append, rest_meant, rest_left}
-use Rattle.text_laws.proofs.Whole.{IsAt, at_taken, at_same, rest_entered, walk_at, meaning_same}
-use Rattle.text_laws.proofs.Spans.{Rise, rise_lower, InSpan, Span, SpanOn, span_walk}
-use Rattle.text_laws.proofs.Order.{Sorted, InOrder, order_more, member_order, import_order, stands}
+use Rattle.text_laws.proofs.ListLemmas.{map-adjusted, map-adjusted_same}
+use Rattle.text_laws.proofs.CoherenceSteps.{with_owned, with_held, bare}
+use Rattle.text_laws.proofs.CoherenceLaws.{IsAlike, alike_coherent, alike_from, entered_on, walk_on, left_on, role_push}
+use Rattle.text_laws.proofs.FittingLaws.{every_append, rest_meant, rest_entered, rest_left}
+use Rattle.text_laws.proofs.WholeLaws.{IsAt, at_taken, at_same, walk_at, meaning_same}
+use Rattle.text_laws.proofs.SpanLaws.{Rise, rise_lower, InSpan, Span, SpanOn, span_walk}
+use Rattle.text_laws.proofs.OrderLemmas.{Sorted, InOrder, order_more, member_order, import_order, stands}
+use Rattle.linker_base.proofs.Cases.{both_true}
 
 -- Where the next item may begin.
 
@@ -120,7 +120,7 @@ pub record Ordered (m : Mode) (n k : ℕ) (quiet : Bool) (w v : Walk) : Type 0 w
 token_order : (t : Tables) (text : List ℕ) (a : Action) (j : ℕ) (ks : List ℕ) (w : Walk) (ts : List Token) (m m' : Mode) (n k : ℕ) → w.rest ≡ ts
     → IsAt (j ∷ ks) w → k ≤ n
     → token_mode (meaning_at t j) m ≡ Some m' → Placed m n w.waiting w.rest → OrderOf k w
-        → Ordered m' n k (not (is_visibility (meaning_at t j))) w (taken_from t text a ts w)
+    → Ordered m' n k (not (is_visibility (meaning_at t j))) w (taken_from t text a ts w)
 token_order t text a j ks w [] m m' n k is at le e p o = let x : kinds_of w.rest ≡ [] = ap kinds_of is in let y : kinds_of w.rest ≡ j ∷ ks = at.kinds in cc
 token_order t text a j ks w (x ∷ ts) m m' n k is at le e p o =
     let all : kinds_of (x ∷ ts) ≡ j ∷ ks = ap kinds_of (sym is) ∙ at.kinds in
@@ -135,7 +135,7 @@ token_order t text a j ks w (x ∷ ts) m m' n k is at le e p o =
       go : (y : Meaning) → meaning_of t x.kind ≡ y → token_mode y m ≡ Some m' → Placed m n w.waiting (x ∷ ts)
           → (meant text a (meaning_of t x.kind) x (record w { rest = ts })).rest ≡ ts
           → OrderOf k (meant text a (meaning_of t x.kind) x (record w { rest = ts }))
-              → not (is_visibility (meaning_at t j)) ≡ not (is_visibility (meaning_of t x.kind))
+          → not (is_visibility (meaning_at t j)) ≡ not (is_visibility (meaning_of t x.kind))
           → Ordered m' n k (not (is_visibility (meaning_at t j))) w (meant text a (meaning_of t x.kind) x (record w { rest = ts }))
       go y means mode here rest kept quiet = split (is_visibility y) refl m refl mode where
         split : (b : Bool) → is_visibility y ≡ b → (m1 : Mode) → m ≡ m1 → cond (b && is_used m1) None (Some Clear) ≡ Some m'
@@ -157,7 +157,7 @@ token_order t text a j ks w (x ∷ ts) m m' n k is at le e p o =
         split false unseen m1 is_m mode =
             let clear : Clear ≡ m' = cc in
             let wait : (meant text a (meaning_of t x.kind) x (record w { rest = ts })).waiting ≡ w.waiting =
-                waiting_meant text a (meaning_of t x.kind) x (record w { rest = ts }) (ap is_visibility means ∙ unseen) in
+            waiting_meant text a (meaning_of t x.kind) x (record w { rest = ts }) (ap is_visibility means ∙ unseen) in
             subst (λ z. Ordered z n k (not (is_visibility (meaning_at t j))) w (meant text a (meaning_of t x.kind) x (record w { rest = ts }))) clear (record {
               end = n;
               later = omega arith;
@@ -169,10 +169,6 @@ token_order t text a j ks w (x ∷ ts) m m' n k is at le e p o =
 
 -- Facts of the tests.
 
-both_true : (a b : Bool) → (a && b) ≡ true → (a ≡ true) × (b ≡ true)
-both_true true b e = (refl, e)
-both_true false b e = cc
-
 rule_modes : (t : Tables) (claims : List ModeClaim) (n p : ℕ) (rs : List Rule) (r : Rule) → all_modes t claims n rs ≡ true → slice_get rs p ≡ Some r
     → meets_mode t claims (mode_claim_at claims r.left) (action_at t (n + p)) r.right ≡ true
 rule_modes t claims n p [] r ok at = cc
@@ -181,7 +177,7 @@ rule_modes t claims n zero (x ∷ rs) r ok at =
     let b = both_true (meets_mode t claims (mode_claim_at claims x.left) (action_at t n) x.right) (all_modes t claims (suc n) rs) ok in
     let z : n ≡ n + 0 = omega arith in
     subst (λ k. meets_mode t claims (mode_claim_at claims r.left) (action_at t k) r.right ≡ true) z
-      (subst (λ (y : Rule). meets_mode t claims (mode_claim_at claims y.left) (action_at t n) y.right ≡ true) same b.0)
+    (subst (λ (y : Rule). meets_mode t claims (mode_claim_at claims y.left) (action_at t n) y.right ≡ true) same b.0)
 rule_modes t claims n (suc p) (x ∷ rs) r ok at =
     let b = both_true (meets_mode t claims (mode_claim_at claims x.left) (action_at t n) x.right) (all_modes t claims (suc n) rs) ok in
     let z : suc n + p ≡ n + suc p = omega arith in
@@ -192,7 +188,7 @@ here_modes : (t : Tables) (claims : List ModeClaim) (g : Table) (p c : ℕ) (r :
 here_modes t claims g p c r ok at left_is =
     let zero_add : 0 + p ≡ p = omega arith in
     subst (λ y. meets_mode t claims (mode_claim_at claims y) (action_at t p) r.right ≡ true) left_is
-        (subst (λ q. meets_mode t claims (mode_claim_at claims r.left) (action_at t q) r.right ≡ true) zero_add (rule_modes t claims 0 p g.rules r ok at))
+    (subst (λ q. meets_mode t claims (mode_claim_at claims r.left) (action_at t q) r.right ≡ true) zero_add (rule_modes t claims 0 p g.rules r ok at))
 
 mode_meets : (t : Tables) (claims : List ModeClaim) (c : ModeClaim) (a : Action) (ss : List Symbol) (m : Mode) → meets_mode t claims c a ss ≡ true
     → is_freer (production_mode t claims a ss m) (mode_after c m) ≡ true
@@ -200,14 +196,14 @@ mode_meets t claims c a ss Clear ok = (both_true (is_freer (production_mode t cl
     (is_freer (production_mode t claims a ss Used) (mode_after c Used) && (not c.quiet || (makes_none a && are_quiet t claims ss))) ok).0
 mode_meets t claims c a ss Used ok =
     let b = both_true (is_freer (production_mode t claims a ss Clear) (mode_after c Clear))
-        (is_freer (production_mode t claims a ss Used) (mode_after c Used) && (not c.quiet || (makes_none a && are_quiet t claims ss))) ok in
+    (is_freer (production_mode t claims a ss Used) (mode_after c Used) && (not c.quiet || (makes_none a && are_quiet t claims ss))) ok in
     (both_true (is_freer (production_mode t claims a ss Used) (mode_after c Used)) (not c.quiet || (makes_none a && are_quiet t claims ss)) b.1).0
 
 quiet_meets : (t : Tables) (claims : List ModeClaim) (c : ModeClaim) (a : Action) (ss : List Symbol) → meets_mode t claims c a ss ≡ true → c.quiet ≡ true
     → (makes_none a ≡ true) × (are_quiet t claims ss ≡ true)
 quiet_meets t claims c a ss ok q =
     let b = both_true (is_freer (production_mode t claims a ss Clear) (mode_after c Clear))
-        (is_freer (production_mode t claims a ss Used) (mode_after c Used) && (not c.quiet || (makes_none a && are_quiet t claims ss))) ok in
+    (is_freer (production_mode t claims a ss Used) (mode_after c Used) && (not c.quiet || (makes_none a && are_quiet t claims ss))) ok in
     let d = both_true (is_freer (production_mode t claims a ss Used) (mode_after c Used)) (not c.quiet || (makes_none a && are_quiet t claims ss)) b.1 in
     both_true (makes_none a) (are_quiet t claims ss) (ap (λ x. not x || (makes_none a && are_quiet t claims ss)) (sym q) ∙ d.1)
 
@@ -256,7 +252,7 @@ nonempty t claims g ok (Branch p below f) (Inner c ∷ ss) d e =
     let m = some_mode t claims ss (mode_after (mode_claim_at claims c) Used) Clear e in
     let meets = mode_meets t claims (mode_claim_at claims c) (action_at t p) r.right Used (here_modes t claims g p c r ok d.0.1 d.0.2) in
     by_mode m.0 (m.1) (ap (is_freer (production_mode t claims (action_at t p) r.right Used)) (sym m.1) ∙ meets) (ap (modes t claims ss) (sym m.1) ∙ e)
-      (λ x. nonempty t claims g ok below r.right d.0.3 x) (λ x. nonempty t claims g ok f ss d.1 x) where
+    (λ x. nonempty t claims g ok below r.right d.0.3 x) (λ x. nonempty t claims g ok f ss d.1 x) where
       front : (xs ys : List ℕ) → ((k : ℕ) × (ks : List ℕ) × (xs ≡ k ∷ ks)) → (k : ℕ) × (ks : List ℕ) × (xs ++ ys ≡ k ∷ ks)
       front xs ys h = (h.0, h.1 ++ ys, ap (λ z. z ++ ys) h.2)
 
@@ -278,7 +274,7 @@ nonempty t claims g ok (Branch p below f) (Inner c ∷ ss) d e =
       by_mode : (m : Mode) → mode_after (mode_claim_at claims c) Used ≡ Some m
           → is_freer (production_mode t claims (action_at t p) d.0.0.right Used) (Some m) ≡ true → modes t claims ss (Some m) ≡ Some Clear
           → (modes t claims d.0.0.right (Some Used) ≡ Some Clear → (k : ℕ) × (ks : List ℕ) × (tokens below ≡ k ∷ ks))
-              → (modes t claims ss (Some Used) ≡ Some Clear → (k : ℕ) × (ks : List ℕ) × (tokens f ≡ k ∷ ks))
+          → (modes t claims ss (Some Used) ≡ Some Clear → (k : ℕ) × (ks : List ℕ) × (tokens f ≡ k ∷ ks))
           → (k : ℕ) × (ks : List ℕ) × (tokens below ++ tokens f ≡ k ∷ ks)
       by_mode Clear is freer e first rest = front (tokens below) (tokens f) (first (from_used (action_at t p) freer))
       by_mode Used is freer e first rest = back (tokens below) (tokens f) (rest e)
@@ -296,7 +292,7 @@ quiet_entered other w e = record { stocks = refl; members = refl; imports = refl
 quiet_given : (d : Taking) (f : Frame) (v u : Walk) → makes_none (action.Take d) ≡ true → u.elements ≡ v.elements → u.members ≡ v.members
     → u.imports ≡ v.imports → u.current ≡ v.current
     → (map stock (given d f v.reading u).elements ≡ map stock v.elements) × ((given d f v.reading u).members ≡ v.members)
-        × ((given d f v.reading u).imports ≡ v.imports)
+    × ((given d f v.reading u).imports ≡ v.imports)
 quiet_given taking.Alias f v u e a b c x = cc
 quiet_given taking.Import f v u e a b c x = cc
 quiet_given other f v u e a b c x = (map-adjusted_same stock u.current _ u.elements (λ d. refl) ∙ ap (map stock) a, b, c)
@@ -383,26 +379,26 @@ held_run q Clear y o e = go q refl (is_clear o) refl e where
 element_node : (t : Tables) (claims : List ModeClaim) (k0 : Kind) (ss : List Symbol) (w v : Walk) (y : Mode) (n k : ℕ) (j : ℕ) (js : List ℕ) (q : Bool)
     → kinds_of w.rest ≡ j ∷ js → IsCoherent w → y ≡ Clear → modes t claims ss (Some Used) ≡ Some Clear
     → k ≤ n → Placed Clear n w.waiting w.rest → OrderOf k w → OnBelow t claims ss (entered (action.Element k0) w) v
-        → Ordered y n k (false && q) w (left (action.Element k0) (saved (action.Element k0) w) v)
+    → Ordered y n k (false && q) w (left (action.Element k0) (saved (action.Element k0) w) v)
 element_node t claims k0 ss w v y n k j js q kinds coh is run le p o on =
     let b = begun n w.waiting w.rest j js kinds p in
     let place = begun_place w.waiting w.rest in
     let ms = w.members ++ owned_member w ∷ [] in
     let one = member_order w.current (with_owned (length w.members)) (map stock w.elements) w.members w.imports (owned_member w) k (omega (arith, le, b.above))
-        (λ s. refl) coh.each o in
+    (λ s. refl) coh.each o in
     let es = adjusted w.current (with_item (item.Member (length w.members))) w.elements in
     let stocks : map stock (es ++ draft k0 (Some w.current) ∷ []) ≡ adjusted w.current (with_owned (length w.members)) (map stock w.elements)
-        ++ bare w.current ∷ [] =
-        map-append stock es (draft k0 (Some w.current) ∷ [])
-        ∙ ap (λ ss. ss ++ bare w.current ∷ []) (map-adjusted stock (with_owned (length w.members)) w.current
-            (with_item (item.Member (length w.members))) w.elements (λ d. refl)) in
+    ++ bare w.current ∷ [] =
+    map-append stock es (draft k0 (Some w.current) ∷ [])
+    ∙ ap (λ ss. ss ++ bare w.current ∷ []) (map-adjusted stock (with_owned (length w.members)) w.current
+    (with_item (item.Member (length w.members))) w.elements (λ d. refl)) in
     let two : InOrder (suc place) (map stock (es ++ draft k0 (Some w.current) ∷ [])) ms w.imports = record {
       members = one.members;
       imports = one.imports;
       items = subst (Every (λ s. Sorted (suc place) (flat_map (stands ms w.imports) s.items))) (sym stocks)
           (every_append (λ s. Sorted (suc place) (flat_map (stands ms w.imports) s.items))
-              (adjusted w.current (with_owned (length w.members)) (map stock w.elements)) (bare w.current ∷ []) one.items
-            (record { rising = refl; below = tt }, tt));
+          (adjusted w.current (with_owned (length w.members)) (map stock w.elements)) (bare w.current ∷ []) one.items
+          (record { rising = refl; below = tt }, tt));
     } in
     let i = on Used Clear (suc place) (suc place) run (omega arith) b.behind two in
     let same = map-adjusted_same stock v.current (named v.reading) v.elements (λ d. refl) in
@@ -432,7 +428,7 @@ placed_rise n (Some s) ts e p = cc
 alias_node : (t : Tables) (claims : List ModeClaim) (ss : List Symbol) (w v : Walk) (y : Mode) (n k : ℕ) (j : ℕ) (js : List ℕ) (q : Bool)
     → kinds_of w.rest ≡ j ∷ js → IsCoherent v → y ≡ Clear → modes t claims ss (Some Used) ≡ Some Clear → are_quiet t claims ss ≡ true
     → k ≤ n → Placed Clear n w.waiting w.rest → OrderOf k w → OnBelow t claims ss (entered (action.Take taking.Alias) w) v
-        → Ordered y n k (false && q) w (left (action.Take taking.Alias) (saved (action.Take taking.Alias) w) v)
+    → Ordered y n k (false && q) w (left (action.Take taking.Alias) (saved (action.Take taking.Alias) w) v)
 alias_node t claims ss w v y n k j js q kinds coh is run quiet le p o on =
     let b = begun n w.waiting w.rest j js kinds p in
     let place = begun_place w.waiting w.rest in
@@ -442,11 +438,11 @@ alias_node t claims ss w v y n k j js q kinds coh is run quiet le p o on =
     let f = saved (action.Take taking.Alias) w in
     let x = with_inner (item.Member (length v.members)) role.Alias (first_name (names v.reading.nodes)) in
     let one = member_order v.current (with_held (item.Member (length v.members)) role.Alias) (map stock v.elements) v.members v.imports
-        (alias_member f v.reading u) k (omega (arith, le, b.above)) (λ s. refl) coh.each c.0 in
+    (alias_member f v.reading u) k (omega (arith, le, b.above)) (λ s. refl) coh.each c.0 in
     let stocks = map-adjusted stock (with_held (item.Member (length v.members)) role.Alias) v.current x v.elements
-        (λ d. role_push d (item.Member (length v.members)) role.Alias (first_name (names v.reading.nodes))) in
+    (λ d. role_push d (item.Member (length v.members)) role.Alias (first_name (names v.reading.nodes))) in
     let two : InOrder (suc place) (map stock (adjusted v.current x v.elements)) (v.members ++ alias_member f v.reading u ∷ []) v.imports =
-        subst (λ z. InOrder (suc place) z (v.members ++ alias_member f v.reading u ∷ []) v.imports) (sym stocks) one in
+    subst (λ z. InOrder (suc place) z (v.members ++ alias_member f v.reading u ∷ []) v.imports) (sym stocks) one in
     record {
       end = i.end;
       later = omega (arith, i.later, b.above);
@@ -458,7 +454,7 @@ alias_node t claims ss w v y n k j js q kinds coh is run quiet le p o on =
 import_node : (t : Tables) (claims : List ModeClaim) (ss : List Symbol) (w v : Walk) (y : Mode) (n k : ℕ) (j : ℕ) (js : List ℕ) (q : Bool)
     → kinds_of w.rest ≡ j ∷ js → IsCoherent v → y ≡ Clear → modes t claims ss (Some Used) ≡ Some Clear → are_quiet t claims ss ≡ true
     → k ≤ n → Placed Clear n w.waiting w.rest → OrderOf k w → OnBelow t claims ss (entered (action.Take taking.Import) w) v
-        → ((l : ℕ) → Span l l fresh → Rise l w.rest → SpanOn l l v)
+    → ((l : ℕ) → Span l l fresh → Rise l w.rest → SpanOn l l v)
     → Ordered y n k (false && q) w (left (action.Take taking.Import) (saved (action.Take taking.Import) w) v)
 import_node t claims ss w v y n k j js q kinds coh is run quiet le p o on spans =
     let b = begun n w.waiting w.rest j js kinds p in
@@ -468,17 +464,17 @@ import_node t claims ss w v y n k j js q kinds coh is run quiet le p o on spans 
     let s = spans place (record { names = tt; root = tt }) b.from in
     let none : v.waiting ≡ None = c.1 refl in
     let z = path_behind place i.end v (names v.reading.nodes) (omega (arith, i.later))
-        (placed_rise i.end v.waiting v.rest none i.placed) s.end s.span.names s.rise in
+    (placed_rise i.end v.waiting v.rest none i.placed) s.end s.span.names s.rise in
     let u : Walk = record v { reading = w.reading } in
     let f = saved (action.Take taking.Import) w in
     let path = path_or place (names v.reading.nodes) in
     let x = with_inner (item.Import (length v.imports)) role.Import path in
     let one = import_order v.current (with_held (item.Import (length v.imports)) role.Import) (map stock v.elements) v.members v.imports
-        (import_of f v.reading u) k (omega (arith, le, b.above, z.0)) (λ s. refl) coh.each c.0 in
+    (import_of f v.reading u) k (omega (arith, le, b.above, z.0)) (λ s. refl) coh.each c.0 in
     let stocks = map-adjusted stock (with_held (item.Import (length v.imports)) role.Import) v.current x v.elements
-        (λ d. role_push d (item.Import (length v.imports)) role.Import path) in
+    (λ d. role_push d (item.Import (length v.imports)) role.Import path) in
     let two : InOrder (suc path.place) (map stock (adjusted v.current x v.elements)) v.members (v.imports ++ import_of f v.reading u ∷ []) =
-        subst (λ z. InOrder (suc path.place) z v.members (v.imports ++ import_of f v.reading u ∷ [])) (sym stocks) one in
+    subst (λ z. InOrder (suc path.place) z v.members (v.imports ++ import_of f v.reading u ∷ [])) (sym stocks) one in
     record {
       end = z.1.end;
       later = omega (arith, b.above, z.0, z.1.above);
@@ -491,9 +487,9 @@ import_node t claims ss w v y n k j js q kinds coh is run quiet le p o on spans 
 order_node : (t : Tables) (claims : List ModeClaim) (a : Action) (ss : List Symbol) (w v : Walk) (m y : Mode) (n k : ℕ)
     → production_mode t claims a ss m ≡ Some y → IsCoherent w → IsCoherent v
     → (modes t claims ss (Some Used) ≡ Some Clear → (j : ℕ) × (js : List ℕ) × (kinds_of w.rest ≡ j ∷ js)) → k ≤ n → Placed m n w.waiting w.rest → OrderOf k w
-        → OnBelow t claims ss (entered a w) v
+    → OnBelow t claims ss (entered a w) v
     → ((l : ℕ) → Span l l fresh → Rise l w.rest → a ≡ action.Take taking.Import → SpanOn l l v)
-        → Ordered y n k (makes_none a && are_quiet t claims ss) w (left a (saved a w) v)
+    → Ordered y n k (makes_none a && are_quiet t claims ss) w (left a (saved a w) v)
 order_node t claims (action.Element k0) ss w v m y n k run cw cv some le p o on spans =
     let r = item_run m y (modes t claims ss (Some Used)) run in
     let x = some r.2 in
@@ -506,17 +502,23 @@ order_node t claims (action.Take taking.Import) ss w v m y n k run cw cv some le
     let r = held_run (are_quiet t claims ss) m y (modes t claims ss (Some Used)) run in
     let x = some r.2 in
     import_node t claims ss w v y n k x.0 x.1 (are_quiet t claims ss) x.2 cv r.1 r.2 r.3 le (subst (λ z. Placed z n w.waiting w.rest) r.0 p) o on
-        (λ l s q. spans l s q refl)
+    (λ l s q. spans l s q refl)
 order_node t claims other ss w v m y n k run cw cv some le p o on spans = quiet_node t claims other ss w v m y n k refl run le p o on
 
 pub order_walk : (t : Tables) (claims : List ModeClaim) (text : List ℕ) (g : Table) → all_modes t claims 0 g.rules ≡ true
     → (f : Forest) (ss : List Symbol) (a : Action) (ks : List ℕ) (w : Walk) (m y : Mode) (n k : ℕ)
     → IsDerivation g ss f → IsAt (tokens f ++ ks) w → IsCoherent w → modes t claims ss (Some m) ≡ Some y → k ≤ n → Placed m n w.waiting w.rest → OrderOf k w
-        → Ordered y n k (are_quiet t claims ss) w (walk t text a f w)
+    → Ordered y n k (are_quiet t claims ss) w (walk t text a f w)
 order_walk t claims text g ok Nothing [] a ks w m y n k d at coh e le p o =
     let same : m ≡ y = cc in
-    record { end = n; later = omega arith; placed = subst (λ z. Placed z n w.waiting w.rest) same p; order =
-        order_more k n (map stock w.elements) w.members w.imports le o; calm = λ q. (o, λ z. z) }
+    record {
+      end = n;
+      later = omega arith;
+      placed = subst (λ z. Placed z n w.waiting w.rest) same p;
+      order =
+          order_more k n (map stock w.elements) w.members w.imports le o;
+      calm = λ q. (o, λ z. z);
+    }
 order_walk t claims text g ok Nothing (Terminal j ∷ ss) a ks w m y n k d at coh e le p o = absurd d
 order_walk t claims text g ok Nothing (Inner c ∷ ss) a ks w m y n k d at coh e le p o = absurd d
 order_walk t claims text g ok (Leaf j f) [] a ks w m y n k d at coh e le p o = absurd d
@@ -526,20 +528,20 @@ order_walk t claims text g ok (Leaf j f) (Terminal i ∷ ss) a ks w m y n k d at
     let same : meaning_at t j ≡ meaning_at t i = ap (meaning_at t) d.0 in
     let one = token_order t text a j (tokens f ++ ks) w w.rest m x.0 n k refl at le (ap (λ z. token_mode z m) same ∙ x.1) p o in
     let rest = order_walk t claims text g ok f ss a ks (taken t text a w) x.0 y one.end one.end d.1 (at_taken t text a j (tokens f ++ ks) w w.rest refl at)
-        (alike_coherent w (taken t text a w) (alike_from t text a w.rest w) coh) (ap (modes t claims ss) (sym x.1) ∙ e) (omega arith) one.placed one.order in
+    (alike_coherent w (taken t text a w) (alike_from t text a w.rest w) coh) (ap (modes t claims ss) (sym x.1) ∙ e) (omega arith) one.placed one.order in
     record {
       end = rest.end;
       later = omega (arith, one.later, rest.later);
       placed = rest.placed;
       order = rest.order;
       calm = λ q.
-        let b = both_true (not (is_visibility (meaning_at t i))) (are_quiet t claims ss) q in
-        let c = one.calm (ap (λ z. not (is_visibility z)) same ∙ b.0) in
-        let again = order_walk t claims text g ok f ss a ks (taken t text a w) x.0 y one.end k d.1 (at_taken t text a j (tokens f ++ ks) w w.rest refl at)
-            (alike_coherent w (taken t text a w) (alike_from t text a w.rest w) coh) (ap (modes t claims ss) (sym x.1) ∙ e)
-                (omega (arith, le, one.later)) one.placed c.0 in
-        let r = again.calm b.1 in
-        (r.0, λ z. r.1 (c.1 z));
+          let b = both_true (not (is_visibility (meaning_at t i))) (are_quiet t claims ss) q in
+          let c = one.calm (ap (λ z. not (is_visibility z)) same ∙ b.0) in
+          let again = order_walk t claims text g ok f ss a ks (taken t text a w) x.0 y one.end k d.1 (at_taken t text a j (tokens f ++ ks) w w.rest refl at)
+          (alike_coherent w (taken t text a w) (alike_from t text a w.rest w) coh) (ap (modes t claims ss) (sym x.1) ∙ e)
+          (omega (arith, le, one.later)) one.placed c.0 in
+          let r = again.calm b.1 in
+          (r.0, λ z. r.1 (c.1 z));
     }
 order_walk t claims text g ok (Branch p0 below f) [] a ks w m y n k d at coh e le p o = absurd d
 order_walk t claims text g ok (Branch p0 below f) (Terminal j ∷ ss) a ks w m y n k d at coh e le p o = absurd d
@@ -559,29 +561,29 @@ order_walk t claims text g ok (Branch p0 below f) (Inner c ∷ ss) a ks w m y n 
     let cv = walk_on t text b below (entered b w) ce.coherent in
     let cu = left_on b (saved b w) v (omega (arith, coh.current, length-map w.elements stock, ce.longer, cv.longer)) cv.coherent in
     let one = order_node t claims b r.right w v m z.0 n k z.1 coh cv.coherent
-        (λ run. let q = nonempty t claims g ok below r.right d.0.3 run
-            in (q.0, q.1 ++ (tokens f ++ ks), here.kinds ∙ ap (λ s. s ++ (tokens f ++ ks)) q.2)) le p o
-        (λ m1 m2 n' k' run le' p' o'. order_walk t claims text g ok below r.right b (tokens f ++ ks)
-            (entered b w) m1 m2 n' k' d.0.3 begun_at ce.coherent run le' p' o')
-        (λ l s q same. span_walk t text b below (entered b w) l l (omega arith) (subst (λ z. Span l l (entered z w).reading) (sym same) s)
-            (subst (Rise l) (sym (rest_entered b w)) q)) in
+    (λ run. let q = nonempty t claims g ok below r.right d.0.3 run
+    in (q.0, q.1 ++ (tokens f ++ ks), here.kinds ∙ ap (λ s. s ++ (tokens f ++ ks)) q.2)) le p o
+    (λ m1 m2 n' k' run le' p' o'. order_walk t claims text g ok below r.right b (tokens f ++ ks)
+    (entered b w) m1 m2 n' k' d.0.3 begun_at ce.coherent run le' p' o')
+    (λ l s q same. span_walk t text b below (entered b w) l l (omega arith) (subst (λ z. Span l l (entered z w).reading) (sym same) s)
+    (subst (Rise l) (sym (rest_entered b w)) q)) in
     let weak : Placed x.0 one.end u.waiting u.rest = placed_freer z.0 x.0 one.end u.waiting u.rest
-        (ap (λ q. is_freer q (Some x.0)) (sym z.1) ∙ freer) one.placed in
+    (ap (λ q. is_freer q (Some x.0)) (sym z.1) ∙ freer) one.placed in
     let after : IsAt (tokens f ++ ks) u = at_same (tokens f ++ ks) v u (rest_left b (saved b w) v)
-        (walk_at t text b below (tokens f ++ ks) (entered b w) begun_at) in
+    (walk_at t text b below (tokens f ++ ks) (entered b w) begun_at) in
     let rest = order_walk t claims text g ok f ss a ks u x.0 y one.end one.end d.1 after cu.coherent (ap (modes t claims ss) (sym x.1) ∙ e)
-        (omega arith) weak one.order in
+    (omega arith) weak one.order in
     record {
       end = rest.end;
       later = omega (arith, one.later, rest.later);
       placed = rest.placed;
       order = rest.order;
       calm = λ q.
-        let s = both_true claim.quiet (are_quiet t claims ss) q in
-        let n2 = quiet_meets t claims claim b r.right meets s.0 in
-        let c1 = one.calm (ap (λ h. h && are_quiet t claims r.right) n2.0 ∙ n2.1) in
-        let again = order_walk t claims text g ok f ss a ks u x.0 y one.end k d.1 after cu.coherent (ap (modes t claims ss) (sym x.1) ∙ e)
-            (omega (arith, le, one.later)) weak c1.0 in
-        let c2 = again.calm s.1 in
-        (c2.0, λ h. c2.1 (c1.1 h));
+          let s = both_true claim.quiet (are_quiet t claims ss) q in
+          let n2 = quiet_meets t claims claim b r.right meets s.0 in
+          let c1 = one.calm (ap (λ h. h && are_quiet t claims r.right) n2.0 ∙ n2.1) in
+          let again = order_walk t claims text g ok f ss a ks u x.0 y one.end k d.1 after cu.coherent (ap (modes t claims ss) (sym x.1) ∙ e)
+          (omega (arith, le, one.later)) weak c1.0 in
+          let c2 = again.calm s.1 in
+          (c2.0, λ h. c2.1 (c1.1 h));
     }

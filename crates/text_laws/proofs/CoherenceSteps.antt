@@ -1,9 +1,8 @@
 -- Every walk over every forest is coherent: one lemma for each of the three steps that touch owning and holding.
-use Rattle.std.proofs.Common.{◌≡◌, ℕ, zero, suc, ◌+◌, ◌<◌, ◌≤◌, Bool, true, false, nat_eq, List, [], ◌∷◌, ◌++◌, length, refl, ap, sym, subst, ◌∙◌, arith, length-append, append-nil, append_assoc}
-use Rattle.std.specs.Prelude.{map, slice_get, Option, Some, None}
+use Rattle.std.proofs.Common.{◌≡◌, ℕ, zero, suc, ◌+◌, ◌<◌, ◌≤◌, Bool, true, false, nat_eq, List, [], ◌∷◌, ◌++◌, length, refl, ap, sym, subst, ◌∙◌, arith, length-append, append-nil}
+use Rattle.std.specs.Prelude.{slice_get, Some, None}
 use Rattle.std.specs.List.{flat_map}
 use Rattle.std.proofs.lemmas.Grind.{flat_map-append}
-use Rattle.std.proofs.lemmas.List.{map-append}
 use Rattle.std.proofs.lemmas.Bool.{eq-eqb, ne_eqb}
 use Rattle.element_store.specs.declared.outcome.Role.{Role}
 use Rattle.element_store.specs.declared.outcome.Role.TheVariants as role
@@ -13,13 +12,12 @@ use Rattle.element_store.specs.Numbers.{numbers_from}
 use Rattle.element_store.specs.NameTables.{if_noted}
 use Rattle.element_store.proofs.NameLaws.{numbers_more}
 use Rattle.element_store.specs.Model.{members_in, imports_in, member_number, import_number}
-use Rattle.text_model.specs.declared.draft.DraftTarget.{DraftTarget}
 use Rattle.text_model.specs.declared.draft.DraftTarget.TheVariants.{Owned, Alias}
 use Rattle.text_model.specs.declared.draft.DraftMember.{DraftMember}
 use Rattle.text_model.specs.declared.draft.DraftImport.{DraftImport}
 use Rattle.text_model.specs.Drafts.{adjusted}
-use Rattle.text_laws.specs.Coherent.{Stock, Held, held_target, held_member, held_import, held, held_from, IsWithin, AreWithin, Holds, EachFrom, MembersBelow, ImportsBelow, Owner, owner_by, owners_by, owners_from, AreCoherent}
-use Rattle.text_laws.proofs.Lists.{length-adjusted, each_above, each_adjusted, each_push, get_front, get_last}
+use Rattle.text_laws.specs.Coherent.{Stock, held_target, held_member, held_import, held, held_from, IsWithin, AreWithin, Holds, MembersBelow, ImportsBelow, owner_by, owners_by, owners_from, AreCoherent}
+use Rattle.text_laws.proofs.ListLemmas.{length-adjusted, each_adjusted, each_push, get_front, get_last}
 
 -- Numbers of one more.
 
@@ -122,10 +120,10 @@ takes_owned ms is m x s owned h = record {
       (omega (arith, length-append ms (m ∷ [])));
   inner = flat_map-append (held (ms ++ m ∷ []) is) s.items (item.Member (length ms) ∷ [])
       ∙ (ap (λ hs. flat_map (held (ms ++ m ∷ []) is) s.items ++ hs)
-          (ap (λ o. held_member o ++ []) (get_last ms m) ∙ ap (λ o. held_target m.owner o ++ []) owned)
+      (ap (λ o. held_member o ++ []) (get_last ms m) ∙ ap (λ o. held_target m.owner o ++ []) owned)
       ∙ (append-nil (flat_map (held (ms ++ m ∷ []) is) s.items)
       ∙ subst (λ js. flat_map (held (ms ++ m ∷ []) js) s.items ≡ held_from m.owner 0 s.inner) (append-nil is)
-          (held_more ms (m ∷ []) is [] s.items h.within ∙ h.inner)));
+      (held_more ms (m ∷ []) is [] s.items h.within ∙ h.inner)));
 }
 
 -- An element whose body has one more alias or import.
@@ -143,12 +141,12 @@ takes_alias ms is m s alias h = record {
       (omega (arith, length-append ms (m ∷ [])));
   inner = flat_map-append (held (ms ++ m ∷ []) is) s.items (item.Member (length ms) ∷ [])
       ∙ (ap (λ hs. flat_map (held (ms ++ m ∷ []) is) s.items ++ hs)
-          (ap (λ o. held_member o ++ []) (get_last ms m) ∙ ap (λ o. held_target m.owner o ++ []) alias)
+      (ap (λ o. held_member o ++ []) (get_last ms m) ∙ ap (λ o. held_target m.owner o ++ []) alias)
       ∙ (ap (λ hs. hs ++ record { owner = m.owner; place = length s.inner; role = role.Alias } ∷ [])
       (subst (λ js. flat_map (held (ms ++ m ∷ []) js) s.items ≡ held_from m.owner 0 s.inner) (append-nil is)
-          (held_more ms (m ∷ []) is [] s.items h.within ∙ h.inner))
+      (held_more ms (m ∷ []) is [] s.items h.within ∙ h.inner))
       ∙ sym (held_push m.owner 0 s.inner role.Alias ∙ ap (λ k. held_from m.owner 0 s.inner ++ record { owner = m.owner; place = k; role = role.Alias } ∷ [])
-          (omega arith))));
+      (omega arith))));
 }
 
 takes_import : (ms : List DraftMember) (is : List DraftImport) (i : DraftImport) (s : Stock) → i.at ≡ length s.inner → Holds ms is i.owner s
@@ -162,12 +160,12 @@ takes_import ms is i s at h = record {
       (omega (arith, length-append is (i ∷ [])));
   inner = flat_map-append (held ms (is ++ i ∷ [])) s.items (item.Import (length is) ∷ [])
       ∙ (ap (λ hs. flat_map (held ms (is ++ i ∷ [])) s.items ++ hs)
-          (ap (λ o. held_import o ++ []) (get_last is i) ∙ ap (λ k. record { owner = i.owner; place = k; role = role.Import } ∷ []) at)
+      (ap (λ o. held_import o ++ []) (get_last is i) ∙ ap (λ k. record { owner = i.owner; place = k; role = role.Import } ∷ []) at)
       ∙ (ap (λ hs. hs ++ record { owner = i.owner; place = length s.inner; role = role.Import } ∷ [])
       (subst (λ js. flat_map (held js (is ++ i ∷ [])) s.items ≡ held_from i.owner 0 s.inner) (append-nil ms)
-          (held_more ms [] is (i ∷ []) s.items h.within ∙ h.inner))
+      (held_more ms [] is (i ∷ []) s.items h.within ∙ h.inner))
       ∙ sym (held_push i.owner 0 s.inner role.Import ∙ ap (λ k. held_from i.owner 0 s.inner ++ record { owner = i.owner; place = k; role = role.Import } ∷ [])
-          (omega arith))));
+      (omega arith))));
 }
 
 -- Owners.
@@ -182,7 +180,7 @@ owners-push : (n : ℕ) (ss : List Stock) (s : Stock) → owners_from n (ss ++ s
 owners-push n [] s = ap (λ k. record { element = k; owner = s.owner } ∷ []) (omega arith)
 owners-push n (x ∷ ss) s =
     ap (λ os. record { element = n; owner = x.owner } ∷ os)
-        (owners-push (suc n) ss s ∙ ap (λ k. owners_from (suc n) ss ++ record { element = k; owner = s.owner } ∷ []) (omega arith))
+    (owners-push (suc n) ss s ∙ ap (λ k. owners_from (suc n) ss ++ record { element = k; owner = s.owner } ∷ []) (omega arith))
 
 -- The three steps.
 
@@ -196,14 +194,14 @@ pub element_step : (ss : List Stock) (ms : List DraftMember) (is : List DraftImp
 element_step ss ms is m owned h =
     let len : length (adjusted m.owner (with_owned (length ms)) ss) ≡ length ss = length-adjusted m.owner (with_owned (length ms)) ss in
     let long : length (adjusted m.owner (with_owned (length ms)) ss ++ bare m.owner ∷ []) ≡ length ss + 1 =
-        length-append (adjusted m.owner (with_owned (length ms)) ss) (bare m.owner ∷ []) ∙ omega (arith, len) in
+    length-append (adjusted m.owner (with_owned (length ms)) ss) (bare m.owner ∷ []) ∙ omega (arith, len) in
     let below : MembersBelow (length ss) (ms ++ m ∷ []) = members_push (length ss) ms m h.members h.current in
     record {
       current = omega (arith, long);
       owners = ap (λ os. record { element = 0; owner = None } ∷ os) (flat_map-append (λ (x : DraftMember). owner_by x.target x.owner) ms (m ∷ [])
           ∙ ap (λ t. owners_by ms ++ (owner_by t m.owner ++ [])) owned)
           ∙ (ap (λ os. os ++ record { element = length ss; owner = Some m.owner } ∷ [])
-              (h.owners ∙ sym (owners-kept 0 m.owner (with_owned (length ms)) ss (λ s. refl)))
+          (h.owners ∙ sym (owners-kept 0 m.owner (with_owned (length ms)) ss (λ s. refl)))
           ∙ sym (owners-push 0 (adjusted m.owner (with_owned (length ms)) ss) (bare m.owner)
           ∙ ap (λ k. owners_from 0 (adjusted m.owner (with_owned (length ms)) ss) ++ record { element = k; owner = Some m.owner } ∷ []) (omega (arith, len))));
       each = each_push (Holds (ms ++ m ∷ []) is) (length ss) 0 (adjusted m.owner (with_owned (length ms)) ss) (bare m.owner) (omega (arith, len))

@@ -1,7 +1,8 @@
 -- Lists with one item changed, or with one more.
-use Rattle.std.proofs.Common.{◌≡◌, ℕ, zero, suc, ◌+◌, ◌<◌, ◌≤◌, List, [], ◌∷◌, ◌++◌, length, refl, ap, sym, subst, ◌∙◌, arith}
+use Rattle.std.proofs.Common.{◌≡◌, ℕ, zero, suc, ◌+◌, ◌<◌, ◌≤◌, List, [], ◌∷◌, ◌++◌, length, refl, ap, sym, subst, ◌∙◌, arith, append_assoc}
 use Rattle.std.specs.Prelude.{map, slice_get, Some}
-use Rattle.text_model.specs.Drafts.{adjusted}
+use Rattle.text_model.specs.declared.draft.DraftNode.{DraftNode}
+use Rattle.text_model.specs.Drafts.{adjusted, name_in, names}
 use Rattle.text_laws.specs.Coherent.{EachFrom}
 
 pub length-adjusted : {A : Type 0} (c : ℕ) (f : A → A) (xs : List A) → length (adjusted c f xs) ≡ length xs
@@ -29,7 +30,7 @@ each_above P Q n (x ∷ xs) on each = (on n x (omega arith) each.0, each_above P
 -- one item, the t-th where the first is the n-th, is changed
 pub each_adjusted : {A : Type 0} (P Q : ℕ → A → Type 0) (f : A → A) (t n c : ℕ) (xs : List A) → t ≡ n + c
     → ((e : ℕ) (x : A) → (e ≡ t → ⊥) → P e x → Q e x) → ((x : A) → slice_get xs c ≡ Some x → P t x → Q t (f x)) → EachFrom P n xs
-        → EachFrom Q n (adjusted c f xs)
+    → EachFrom Q n (adjusted c f xs)
 each_adjusted P Q f t n c [] is other this each = tt
 each_adjusted P Q f t n zero (x ∷ xs) is other this each =
     let same : t ≡ n = omega (arith, is) in (
@@ -54,3 +55,8 @@ get_front (x ∷ xs) ys (suc i) below = get_front xs ys i (omega (arith, below))
 pub get_last : {A : Type 0} (xs : List A) (x : A) → slice_get (xs ++ x ∷ []) (length xs) ≡ Some x
 get_last [] x = refl
 get_last (y ∷ ys) x = get_last ys x
+
+-- the names of two lists of nodes, one after the other
+pub names-append : (ns ms : List DraftNode) → names (ns ++ ms) ≡ names ns ++ names ms
+names-append [] ms = refl
+names-append (x ∷ ns) ms = ap (λ ps. name_in x.what ++ ps) (names-append ns ms) ∙ sym (append_assoc (name_in x.what) (names ns) (names ms))

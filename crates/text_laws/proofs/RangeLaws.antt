@@ -1,10 +1,10 @@
 -- The numbers of the numbering are in range.
-use Rattle.std.proofs.Common.{◌≡◌, ◌⊎◌, inl, inr, ℕ, zero, suc, ◌+◌, ◌<◌, ◌≤◌, Bool, true, false, ◌&&◌, nat_eq, List, [], ◌∷◌, ◌++◌, length, refl, ap, sym, subst, ◌∙◌, arith, length-append}
-use Rattle.std.specs.Prelude.{map, slice_get, nat_lt, Option, Some, None, IfSome}
+use Rattle.std.proofs.Common.{◌≡◌, inl, inr, ℕ, zero, suc, ◌+◌, ◌<◌, ◌≤◌, Bool, true, false, nat_eq, List, [], ◌∷◌, ◌++◌, length, refl, ap, sym, subst, ◌∙◌, arith, length-append}
+use Rattle.std.specs.Prelude.{map, slice_get, nat_lt, Option, Some, None}
 use Rattle.std.specs.List.{flat_map, list_all}
 use Rattle.std.specs.Option.{option_map_or}
 use Rattle.std.proofs.lemmas.List.{length-map}
-use Rattle.std.proofs.lemmas.List.Folds.{list_all-append, list_all-map}
+use Rattle.std.proofs.lemmas.List.Folds.{list_all-append}
 use Rattle.std.proofs.lemmas.Bool.{eq-eqb}
 use Rattle.std.proofs.lemmas.Bool.Decides.{Decides-ltb}
 use Rattle.linker_base.specs.Members.{IsMember}
@@ -14,28 +14,27 @@ use Rattle.element_store.specs.declared.outcome.Role.{Role}
 use Rattle.element_store.specs.declared.outcome.Role.TheVariants as role
 use Rattle.element_store.specs.declared.lists.Item.{Item}
 use Rattle.element_store.specs.declared.lists.Item.TheVariants as item
-use Rattle.element_store.specs.declared.records.Reference.{Reference}
 use Rattle.element_store.specs.Numbers.{numbers_from, chosen}
-use Rattle.element_store.specs.Expressions.{names_in, names_of_bounds}
-use Rattle.element_store.specs.Model.{Data, member_number, import_number, members_in, imports_in}
+use Rattle.element_store.specs.Expressions.{names_of_bounds}
+use Rattle.element_store.specs.Model.{Data, members_in, imports_in}
 use Rattle.element_store.specs.Condition.{has_element, has_reference, names_of, element_stands, target_stands, member_stands, import_stands, item_stands, IsInRange}
 use Rattle.text_model.specs.declared.draft.Path.{Path}
 use Rattle.text_model.specs.declared.draft.Mention.{Mention}
-use Rattle.text_model.specs.declared.draft.DraftNode.{DraftNode}
 use Rattle.text_model.specs.declared.draft.DraftExpr.{DraftExpr}
 use Rattle.text_model.specs.declared.draft.Draft.{Draft}
 use Rattle.text_model.specs.declared.draft.DraftTarget.{DraftTarget}
 use Rattle.text_model.specs.declared.draft.DraftTarget.TheVariants.{Owned, Alias}
 use Rattle.text_model.specs.declared.draft.DraftMember.{DraftMember}
 use Rattle.text_model.specs.declared.draft.DraftImport.{DraftImport}
-use Rattle.text_model.specs.Drafts.{names, mentions, own_role}
+use Rattle.text_model.specs.Drafts.{names, mentions}
+use Rattle.linker_base.proofs.Cases.{and_true}
 use Rattle.text_laws.specs.Fits.{Every}
-use Rattle.text_laws.proofs.WalkFits.{every_append}
+use Rattle.text_laws.proofs.FittingLaws.{every_append, every_front, every_back}
 use Rattle.text_model.specs.Walk.{Walk}
-use Rattle.text_laws.specs.Coherent.{Stock, stock, Held, held, held_target, held_member, held_import, held_from, IsWithin, AreWithin, Holds, EachFrom, MembersBelow, ImportsBelow, Owner, owner_by, owners_by, owners_from, AreCoherent, IsCoherent}
-use Rattle.text_model.specs.Numbering.{nodes_of, ends, own_mentions, bound_mentions, value_mentions, head, mentions_of, width, reference, references_from, numbered_in, bounds_of, bound_start, value_start, result_start, element, elements_from, base_from, member_of, member, import_of, model_of}
-use Rattle.text_laws.proofs.ModelParts.{both_pass, elements_long, member_owner}
-use Rattle.text_laws.proofs.ByElement.{count_from, names_in-numbered, bounds_named}
+use Rattle.text_laws.specs.Coherent.{Stock, stock, Held, held, held_target, held_member, held_import, held_from, AreWithin, Holds, EachFrom, MembersBelow, ImportsBelow, Owner, owner_by, owners_by, owners_from, AreCoherent, IsCoherent}
+use Rattle.text_model.specs.Numbering.{nodes_of, ends, own_mentions, bound_mentions, value_mentions, head, mentions_of, width, reference, references_from, numbered_in, bound_start, value_start, result_start, element, elements_from, base_from, member_of, member, import_of, model_of}
+use Rattle.text_laws.proofs.PartLaws.{elements_long, member_owner}
+use Rattle.text_laws.proofs.ByElementLaws.{count_from, names_in-numbered, bounds_named}
 
 below_from : (n k : ℕ) → n < k → nat_lt n k ≡ true
 below_from n k h = (Decides-ltb n k).1 h
@@ -45,7 +44,7 @@ below_from n k h = (Decides-ltb n k).1 h
 counted : (n k total : ℕ) → n + k ≤ total → list_all (λ r. nat_lt r total) (count_from n k) ≡ true
 unfolding count_from
 counted n zero total h = refl
-counted n (suc k) total h = both_pass (nat_lt n total) (list_all (λ r. nat_lt r total) (count_from (suc n) k)) (below_from n total (omega (arith, h)))
+counted n (suc k) total h = and_true (nat_lt n total) (list_all (λ r. nat_lt r total) (count_from (suc n) k)) (below_from n total (omega (arith, h)))
     (counted (suc n) k total (omega (arith, h)))
 
 length-mentions : (r : Role) (ps : List Path) → length (mentions r ps) ≡ length ps
@@ -70,25 +69,17 @@ names_stand total n d fits =
     let b2 = length-mentions role.Value (names (nodes_of d.value)) in
     let b3 = length-mentions role.Value (names (nodes_of d.result)) in
     list_all-append test (names_of_bounds (element n d).bounds) (names_of (element n d).value ++ names_of (element n d).result)
-    ∙ both_pass (list_all test (names_of_bounds (element n d).bounds)) (list_all test (names_of (element n d).value ++ names_of (element n d).result))
+    ∙ and_true (list_all test (names_of_bounds (element n d).bounds)) (list_all test (names_of (element n d).value ++ names_of (element n d).result))
     (ap (list_all test) (bounds_named (bound_start n d) d.bounds)
-        ∙ counted (bound_start n d) (length (names (ends d.bounds))) total (omega (arith, fits, l1, l2, l3, l4, b1, b2, b3)))
+    ∙ counted (bound_start n d) (length (names (ends d.bounds))) total (omega (arith, fits, l1, l2, l3, l4, b1, b2, b3)))
     (list_all-append test (names_of (element n d).value) (names_of (element n d).result)
-    ∙ both_pass (list_all test (names_of (element n d).value)) (list_all test (names_of (element n d).result))
+    ∙ and_true (list_all test (names_of (element n d).value)) (list_all test (names_of (element n d).result))
     (ap (list_all test) (named_value (value_start n d) d.value)
-        ∙ counted (value_start n d) (length (names (nodes_of d.value))) total (omega (arith, fits, l1, l2, l3, l4, b1, b2, b3)))
+    ∙ counted (value_start n d) (length (names (nodes_of d.value))) total (omega (arith, fits, l1, l2, l3, l4, b1, b2, b3)))
     (ap (list_all test) (named_value (result_start n d) d.result)
-        ∙ counted (result_start n d) (length (names (nodes_of d.result))) total (omega (arith, fits, l1, l2, l3, l4, b1, b2, b3))))
+    ∙ counted (result_start n d) (length (names (nodes_of d.result))) total (omega (arith, fits, l1, l2, l3, l4, b1, b2, b3))))
 
 -- Owners.
-
-pub every_front : {A : Type 0} (P : A → Type 0) (xs ys : List A) → Every P (xs ++ ys) → Every P xs
-every_front P [] ys e = tt
-every_front P (x ∷ xs) ys e = (e.0, every_front P xs ys e.1)
-
-pub every_back : {A : Type 0} (P : A → Type 0) (xs ys : List A) → Every P (xs ++ ys) → Every P ys
-every_back P [] ys e = e
-every_back P (x ∷ xs) ys e = every_back P xs ys e.1
 
 abbrev OwnerBelow : ℕ → Owner → Type 0
 OwnerBelow n o = option_map_or (λ k. nat_lt k n) o.owner true ≡ true
@@ -112,8 +103,8 @@ elements_in d e n [] fits owners = refl
 elements_in d e n (x ∷ ds) fits owners =
     let len = length-append (map (reference e) (mentions_of x)) (references_from (suc e) ds) in
     let wide = length-map (mentions_of x) (reference e) in
-    both_pass (element_stands d (element n x)) (list_all (element_stands d) (elements_from (n + width x) ds))
-    (both_pass (option_map_or (has_element d) x.owner true) _ owners.0 (names_stand (length d.references) n x (omega (arith, fits, len, wide))))
+    and_true (element_stands d (element n x)) (list_all (element_stands d) (elements_from (n + width x) ds))
+    (and_true (option_map_or (has_element d) x.owner true) _ owners.0 (names_stand (length d.references) n x (omega (arith, fits, len, wide))))
     (elements_in d (suc e) (n + width x) ds (omega (arith, fits, len, wide)) owners.1)
 
 -- Contexts.
@@ -122,28 +113,28 @@ contexts_in : (d : Data) (e : ℕ) (ds : List Draft) → e + length ds ≤ lengt
 contexts_in d e [] fits = refl
 contexts_in d e (x ∷ ds) fits =
     list_all-append (λ r. has_element d r.context) (map (reference e) (mentions_of x)) (references_from (suc e) ds)
-    ∙ both_pass (list_all (λ r. has_element d r.context) (map (reference e) (mentions_of x)))
-        (list_all (λ r. has_element d r.context) (references_from (suc e) ds))
+    ∙ and_true (list_all (λ r. has_element d r.context) (map (reference e) (mentions_of x)))
+    (list_all (λ r. has_element d r.context) (references_from (suc e) ds))
     (each (mentions_of x)) (contexts_in d (suc e) ds (omega (arith, fits))) where
       each : (ms : List Mention) → list_all (λ r. has_element d r.context) (map (reference e) ms) ≡ true
       each [] = refl
-      each (m ∷ ms) = both_pass (has_element d e) (list_all (λ r. has_element d r.context) (map (reference e) ms))
+      each (m ∷ ms) = and_true (has_element d e) (list_all (λ r. has_element d r.context) (map (reference e) ms))
           (below_from e (length d.elements) (omega (arith, fits))) (each ms)
 
 -- Items.
 
 items_in : (d : Data) (items : List Item) → AreWithin (length d.members) (length d.imports) items → list_all (item_stands d) items ≡ true
 items_in d [] h = refl
-items_in d (item.Member m ∷ items) h = both_pass (nat_lt m (length d.members)) (list_all (item_stands d) items) (below_from m (length d.members) h.0)
+items_in d (item.Member m ∷ items) h = and_true (nat_lt m (length d.members)) (list_all (item_stands d) items) (below_from m (length d.members) h.0)
     (items_in d items h.1)
-items_in d (item.Import i ∷ items) h = both_pass (nat_lt i (length d.imports)) (list_all (item_stands d) items) (below_from i (length d.imports) h.0)
+items_in d (item.Import i ∷ items) h = and_true (nat_lt i (length d.imports)) (list_all (item_stands d) items) (below_from i (length d.imports) h.0)
     (items_in d items h.1)
 
 all_items_in : (d : Data) (ms : List DraftMember) (is : List DraftImport) (e : ℕ) (ds : List Draft) → length ms ≡ length d.members
     → length is ≡ length d.imports → EachFrom (Holds ms is) e (map stock ds)
     → list_all (list_all (item_stands d)) (map (λ x. x.items) ds) ≡ true
 all_items_in d ms is e [] m i h = refl
-all_items_in d ms is e (x ∷ ds) m i h = both_pass (list_all (item_stands d) x.items) (list_all (list_all (item_stands d)) (map (λ y. y.items) ds))
+all_items_in d ms is e (x ∷ ds) m i h = and_true (list_all (item_stands d) x.items) (list_all (list_all (item_stands d)) (map (λ y. y.items) ds))
     (items_in d x.items (subst (λ k. AreWithin k (length d.imports) x.items) m (subst (λ k. AreWithin (length ms) k x.items) i h.0.within)))
     (all_items_in d ms is (suc e) ds m i h.1)
 
@@ -158,9 +149,9 @@ number_held test n zero (y ∷ ys) x at passes =
     rw is (inl (omega arith))
 number_held test n (suc j) (y ∷ ys) x at passes = skip (test y)
     (subst (IsMember (numbers_from (suc n) test ys)) (omega arith) (number_held test (suc n) j ys x at passes)) where
-  skip : (b : Bool) → IsMember (numbers_from (suc n) test ys) (n + suc j) → IsMember (chosen b n (numbers_from (suc n) test ys)) (n + suc j)
-  skip true h = inr h
-  skip false h = h
+      skip : (b : Bool) → IsMember (numbers_from (suc n) test ys) (n + suc j) → IsMember (chosen b n (numbers_from (suc n) test ys)) (n + suc j)
+      skip true h = inr h
+      skip false h = h
 
 member_back : {A : Type 0} (xs ys : List A) (x : A) → IsMember ys x → IsMember (xs ++ ys) x
 member_back [] ys x h = h
@@ -203,11 +194,24 @@ base_within n f e k [] s at below = cc
 base_within n f zero k (d ∷ ds) s at below =
     let same : stock d ≡ s = cc in
     let inner : length (map (λ m. m.role) d.inner) ≡ length s.inner = ap (λ (x : Stock). length x.inner) same in
-    omega (arith, below, inner, length-map d.inner (λ (m : Mention). m.role), length-append (head d) d.inner, length-map (mentions_of d)
-        (reference f), length-append (map (reference f) (mentions_of d)) (references_from (suc f) ds))
+    omega (
+      arith,
+      below,
+      inner,
+      length-map d.inner (λ (m : Mention). m.role),
+      length-append (head d) d.inner,
+      length-map (mentions_of d)
+          (reference f),
+      length-append (map (reference f) (mentions_of d)) (references_from (suc f) ds),
+    )
 base_within n f (suc e) k (d ∷ ds) s at below =
-    omega (arith, base_within (n + width d) (suc f) e k ds s at below, length-map (mentions_of d) (reference f), length-append
-        (map (reference f) (mentions_of d)) (references_from (suc f) ds))
+    omega (
+      arith,
+      base_within (n + width d) (suc f) e k ds s at below,
+      length-map (mentions_of d) (reference f),
+      length-append
+          (map (reference f) (mentions_of d)) (references_from (suc f) ds),
+    )
 
 each_get : {A : Type 0} (P : ℕ → A → Type 0) (n j : ℕ) (xs : List A) → j < length xs → EachFrom P n xs → (x : A) × (slice_get xs j ≡ Some x) × P (n + j) x
 each_get P n j [] below each = absurd (omega (arith, below))
@@ -221,13 +225,13 @@ each_get P n (suc j) (x ∷ xs) below each =
 member_in : (file : FileNo) (language : Language) (w : Walk) (c : ℕ) → AreCoherent (map stock w.elements) w.members w.imports c → (j : ℕ) (m : DraftMember)
     → slice_get w.members j ≡ Some m
     → m.owner < length w.elements → Every (λ o. o.element < length w.elements) (owner_by m.target m.owner)
-        → member_stands (model_of file language w) (member w.elements m) ≡ true
+    → member_stands (model_of file language w) (member w.elements m) ≡ true
 member_in file language w c h j m at owner owned =
     let d = model_of file language w in
     let len : length (elements_from 0 w.elements) ≡ length w.elements = elements_long 0 w.elements in
-    both_pass (has_element d (member w.elements m).owner) (target_stands d (member w.elements m).target)
+    and_true (has_element d (member w.elements m).owner) (target_stands d (member w.elements m).target)
     (ap (λ o. nat_lt o (length (elements_from 0 w.elements))) (member_owner w.elements m)
-        ∙ below_from m.owner (length (elements_from 0 w.elements)) (omega (arith, owner, len)))
+    ∙ below_from m.owner (length (elements_from 0 w.elements)) (omega (arith, owner, len)))
     (go m.target refl owned) where
       go : (t : DraftTarget) → m.target ≡ t → Every (λ o. o.element < length w.elements) (owner_by t m.owner)
           → target_stands (model_of file language w) (member_of w.elements t m).target ≡ true
@@ -241,12 +245,12 @@ member_in file language w c h j m at owner owned =
           (subst (IsMember (numbers_from 0 (λ (y : DraftMember). nat_eq y.owner m.owner) w.members)) (omega arith)
           (number_held (λ (y : DraftMember). nat_eq y.owner m.owner) 0 j w.members m at (eq-eqb m.owner m.owner refl))) in
           let mine : IsMember (held w.members w.imports (item.Member j)) x =
-              subst (λ o. IsMember (held_member o) x) (sym at) (subst (λ t. IsMember (held_target m.owner t) x) (sym is) (inl refl)) in
+          subst (λ o. IsMember (held_member o) x) (sym at) (subst (λ t. IsMember (held_target m.owner t) x) (sym is) (inl refl)) in
           let found : IsMember (held_from m.owner 0 g.0.inner) x =
-              subst (λ hs. IsMember hs x) holds.inner (held_by_member w.members w.imports g.0.items j x listed mine) in
+          subst (λ hs. IsMember hs x) holds.inner (held_by_member w.members w.imports g.0.items j x listed mine) in
           let place : k < 0 + length g.0.inner = place_held m.owner 0 g.0.inner x found in
           below_from (base_from 0 w.elements m.owner + k) (length (references_from 0 w.elements))
-              (omega (arith, base_within 0 0 m.owner k w.elements g.0 g.1 (omega (arith, place))))
+          (omega (arith, base_within 0 0 m.owner k w.elements g.0 g.1 (omega (arith, place))))
 
 import_in : (file : FileNo) (language : Language) (w : Walk) (c : ℕ) → AreCoherent (map stock w.elements) w.members w.imports c → (j : ℕ) (i : DraftImport)
     → slice_get w.imports j ≡ Some i
@@ -262,12 +266,12 @@ import_in file language w c h j i at owner =
     (number_held (λ (y : DraftImport). nat_eq y.owner i.owner) 0 j w.imports i at (eq-eqb i.owner i.owner refl))) in
     let mine : IsMember (held w.members w.imports (item.Import j)) x = subst (λ o. IsMember (held_import o) x) (sym at) (inl refl) in
     let found : IsMember (held_from i.owner 0 g.0.inner) x =
-        subst (λ hs. IsMember hs x) holds.inner (held_by_import w.members w.imports g.0.items j x listed mine) in
+    subst (λ hs. IsMember hs x) holds.inner (held_by_import w.members w.imports g.0.items j x listed mine) in
     let place : i.at < 0 + length g.0.inner = place_held i.owner 0 g.0.inner x found in
-    both_pass (has_element d i.owner) (has_reference d (base_from 0 w.elements i.owner + i.at))
+    and_true (has_element d i.owner) (has_reference d (base_from 0 w.elements i.owner + i.at))
     (below_from i.owner (length (elements_from 0 w.elements)) (omega (arith, owner, elements_long 0 w.elements)))
     (below_from (base_from 0 w.elements i.owner + i.at) (length (references_from 0 w.elements))
-        (omega (arith, base_within 0 0 i.owner i.at w.elements g.0 g.1 (omega (arith, place)))))
+    (omega (arith, base_within 0 0 i.owner i.at w.elements g.0 g.1 (omega (arith, place)))))
 
 members_in_range : (file : FileNo) (language : Language) (w : Walk) (c : ℕ) → AreCoherent (map stock w.elements) w.members w.imports c
     → (n : ℕ) (ms : List DraftMember)
@@ -276,11 +280,11 @@ members_in_range : (file : FileNo) (language : Language) (w : Walk) (c : ℕ) �
 members_in_range file language w c h n [] at below owned = refl
 members_in_range file language w c h n (m ∷ ms) at below owned =
     let P : Owner → Type 0 = λ o. o.element < length w.elements in
-    both_pass (member_stands (model_of file language w) (member w.elements m))
-        (list_all (member_stands (model_of file language w)) (map (member w.elements) ms))
+    and_true (member_stands (model_of file language w) (member w.elements m))
+    (list_all (member_stands (model_of file language w)) (map (member w.elements) ms))
     (member_in file language w c h (n + 0) m (at 0) below.0 (every_front P (owner_by m.target m.owner) (owners_by ms) owned))
     (members_in_range file language w c h (suc n) ms (λ j. ap (slice_get w.members) (omega arith) ∙ at (suc j)) below.1
-        (every_back P (owner_by m.target m.owner) (owners_by ms) owned))
+    (every_back P (owner_by m.target m.owner) (owners_by ms) owned))
 
 imports_in_range : (file : FileNo) (language : Language) (w : Walk) (c : ℕ) → AreCoherent (map stock w.elements) w.members w.imports c
     → (n : ℕ) (is : List DraftImport)
@@ -288,8 +292,8 @@ imports_in_range : (file : FileNo) (language : Language) (w : Walk) (c : ℕ) �
     → list_all (import_stands (model_of file language w)) (map (import_of w.elements) is) ≡ true
 imports_in_range file language w c h n [] at below = refl
 imports_in_range file language w c h n (i ∷ is) at below =
-    both_pass (import_stands (model_of file language w) (import_of w.elements i))
-        (list_all (import_stands (model_of file language w)) (map (import_of w.elements) is))
+    and_true (import_stands (model_of file language w) (import_of w.elements i))
+    (list_all (import_stands (model_of file language w)) (map (import_of w.elements) is))
     (import_in file language w c h (n + 0) i (at 0) below.0)
     (imports_in_range file language w c h (suc n) is (λ j. ap (slice_get w.imports) (omega arith) ∙ at (suc j)) below.1)
 
@@ -299,7 +303,7 @@ in_range file language w h =
     let long : length (elements_from 0 w.elements) ≡ length w.elements = elements_long 0 w.elements in
     let below : MembersBelow (length w.elements) w.members = subst (λ n. MembersBelow n w.members) len h.members in
     let owned : Every (OwnerBelow (length w.elements)) (record { element = 0; owner = None } ∷ owners_by w.members) =
-        (refl, owned_below (length w.elements) w.members below) in
+    (refl, owned_below (length w.elements) w.members below) in
     let numbers : Every (λ o. o.element < length w.elements) (record { element = 0; owner = None } ∷ owners_by w.members) =
     subst (Every (λ o. o.element < length w.elements)) (sym h.owners) (numbers_below 0 (length w.elements) (map stock w.elements) (omega (arith, len))) in
     record {

@@ -1,10 +1,8 @@
 -- What the claims say holds of the walk over each derivation.
-use Rattle.std.proofs.Common.{◌≡◌, ℕ, zero, suc, ◌+◌, ◌-◌, ◌<◌, ◌≤◌, Bool, true, false, ◌&&◌, cond, List, [], ◌∷◌, ◌++◌, length, refl, ap, sym, subst, ◌∙◌, arith, append_assoc}
-use Rattle.std.specs.Prelude.{map, slice_get, slice_index_or, nat_lt, nat_eq, not, Option, Some, None}
-use Rattle.std.proofs.lemmas.Bool.Decides.{Decides-ltb, nat_tests}
+use Rattle.std.proofs.Common.{◌≡◌, ℕ, zero, suc, ◌+◌, ◌-◌, Bool, true, false, ◌&&◌, List, [], ◌∷◌, ◌++◌, refl, ap, sym, subst, ◌∙◌, arith, append_assoc}
+use Rattle.std.specs.Prelude.{slice_get, nat_lt, not, Option, Some, None}
+use Rattle.std.proofs.lemmas.Bool.Decides.{nat_tests}
 use Rattle.std.proofs.lemmas.Bool.{eqb-true}
-use Rattle.element_store.specs.declared.expression.Node.{Node}
-use Rattle.element_store.specs.declared.expression.Node.TheVariants as node
 use Rattle.element_store.specs.declared.expression.BinaryOp.{BinaryOp}
 use Rattle.element_store.specs.declared.expression.BinaryOp.TheVariants as binary
 use Rattle.element_store.specs.Expressions.{stand_after, stand}
@@ -12,7 +10,7 @@ use Rattle.token_core.specs.declared.token.Token.{Token}
 use Rattle.token_core.specs.declared.token.TokenKind.{TokenKind}
 use Rattle.token_core.specs.declared.token.TokenKind.TheVariants as kind
 use Rattle.token_core.specs.Terminals.{terminal, HasNumber}
-use Rattle.token_core.specs.Reading.{bytes_of, name_meaning, number_from, string_meaning}
+use Rattle.token_core.specs.Reading.{bytes_of, name_meaning}
 use Rattle.ll_core.specs.declared.grammar.Symbol.{Symbol}
 use Rattle.ll_core.specs.declared.grammar.Symbol.TheVariants.{Terminal, Inner}
 use Rattle.ll_core.specs.Table.{Rule, Table}
@@ -32,13 +30,14 @@ use Rattle.text_model.specs.declared.draft.DraftNode.{DraftNode}
 use Rattle.text_model.specs.declared.draft.Reading.{Reading}
 use Rattle.text_model.specs.declared.draft.Waiting.{Waiting}
 use Rattle.text_model.specs.Tables.{Tables, action_at, meaning_of}
-use Rattle.text_model.specs.Drafts.{node as placed, joining, joined, applied, applying, last_changed, named_changed}
+use Rattle.text_model.specs.Drafts.{joining, joined, applied, applying, last_changed, named_changed}
 use Rattle.text_model.specs.Walk.{Walk, leaf_node, saved, entered, left, meant, meant_name, meant_operator, taken, taken_from, walk}
 use Rattle.text_model.specs.Profile.{kinds_of}
 use Rattle.text_model.specs.Numbering.{node_of, after_node, numbered}
 use Rattle.text_laws.specs.Fits.{Every}
-use Rattle.text_model.specs.Wholes.{Claim, Whole, Tail, Between, BeforeOne, Silent, Other, Waits, Kept, Free, ForTwo, ForOne, ForThree, Effect, effect, meaning_at, waits_for, one_more, waits_over, now_waits, name_effect, operator_effect, token_effect, tail_effect, claim_effect, claim_at, effects, level_effect, level_end, is_free, is_kept, frees, keeps, is_plain, is_star, is_between, is_sign, is_before_one, one_sign, is_whole_rule, is_tail_rule, meets_claim, takes_whole, all_meet, are_wholes}
-use Rattle.text_laws.proofs.WalkFits.{rest_meant, rest_left}
+use Rattle.text_model.specs.Wholes.{Claim, Whole, Tail, Between, BeforeOne, Silent, Other, Waits, Kept, Free, ForTwo, ForOne, ForThree, Effect, effect, meaning_at, waits_for, one_more, waits_over, name_effect, operator_effect, token_effect, tail_effect, claim_effect, claim_at, effects, level_end, is_free, is_kept, frees, keeps, is_plain, is_star, is_between, is_sign, is_before_one, one_sign, is_whole_rule, meets_claim, takes_whole, all_meet, are_wholes}
+use Rattle.text_laws.proofs.FittingLaws.{rest_meant, rest_entered, rest_left}
+use Rattle.linker_base.proofs.Cases.{both_true}
 
 -- How many values stand after nodes.
 
@@ -129,19 +128,19 @@ name_stands action.Short t bytes w base before s s' is h = let e : s ≡ s' = cc
 name_stands action.Segment t bytes w base before s s' is h =
     let e : s ≡ s' = cc in
     subst (λ x. Stands base before x (meant_name action.Segment t bytes w).reading) e
-        (record { nodes = last_stands _ w.reading.nodes (Some 0) ∙ h.nodes; waiting = h.waiting })
+    (record { nodes = last_stands _ w.reading.nodes (Some 0) ∙ h.nodes; waiting = h.waiting })
 name_stands action.Step t bytes w base before s s' is h =
     let e : s ≡ s' = cc in
     subst (λ x. Stands base before x (meant_name action.Step t bytes w).reading) e
-        (record { nodes = last_stands _ w.reading.nodes (Some 0) ∙ h.nodes; waiting = h.waiting })
+    (record { nodes = last_stands _ w.reading.nodes (Some 0) ∙ h.nodes; waiting = h.waiting })
 name_stands other t bytes w base before s s' is h =
     let e : one_more s ≡ s' = cc in
     subst (λ x. Stands base before x (meant_name other t bytes w).reading) e
-        (leaf_stands base before s w.reading (meant_name other t bytes w).reading _ refl refl (λ n. refl) h)
+    (leaf_stands base before s w.reading (meant_name other t bytes w).reading _ refl refl (λ n. refl) h)
 
 waits_stands : (o : Operator) (place n : ℕ) (q : Waits) (w : Walk) (base : ℕ) (before : Option Waiting) (s' : Effect) → waits_over (waits_for o) n q ≡ Some s'
     → stand_in w.reading.nodes (Some 0) ≡ Some (base + n)
-        → Stands base before s' (record w.reading { operator = Some (record { operator = o; place = place }) })
+    → Stands base before s' (record w.reading { operator = Some (record { operator = o; place = place }) })
 waits_stands o place n Kept w base before s' is nodes = cc
 waits_stands operator.If place n q w base before s' is nodes = over q is where
   over : (q : Waits) → waits_over ForThree n q ≡ Some s'
@@ -171,7 +170,7 @@ operator_stands : (a : Action) (o : Operator) (place : ℕ) (w : Walk) (base : �
 operator_stands action.Star o place w base before s s' is h =
     let e : one_more s ≡ s' = cc in
     subst (λ x. Stands base before x (meant_operator action.Star o place w).reading) e
-        (leaf_stands base before s w.reading (meant_operator action.Star o place w).reading _ refl refl (λ n. refl) h)
+    (leaf_stands base before s w.reading (meant_operator action.Star o place w).reading _ refl refl (λ n. refl) h)
 operator_stands other o place w base before s s' is h = waits_stands o place s.values s.waits w base before s' is h.nodes
 
 leaf_word : (l : LeafWord) (n : ℕ) → stand_after (node_of 0 (leaf_node l)) n ≡ Some (suc n)
@@ -184,13 +183,13 @@ meant_stands : (text : List ℕ) (a : Action) (m : Meaning) (t : Token) (w : Wal
     → Stands base before s' (meant text a m t w).reading
 meant_stands text a meaning.Text t w base before s s' is h =
     let e : one_more s ≡ s' = cc in subst (λ x. Stands base before x (meant text a meaning.Text t w).reading) e
-        (leaf_stands base before s w.reading (meant text a meaning.Text t w).reading _ refl refl (λ n. refl) h)
+    (leaf_stands base before s w.reading (meant text a meaning.Text t w).reading _ refl refl (λ n. refl) h)
 meant_stands text a meaning.Integer t w base before s s' is h =
     let e : one_more s ≡ s' = cc in subst (λ x. Stands base before x (meant text a meaning.Integer t w).reading) e
-        (leaf_stands base before s w.reading (meant text a meaning.Integer t w).reading _ refl refl (λ n. refl) h)
+    (leaf_stands base before s w.reading (meant text a meaning.Integer t w).reading _ refl refl (λ n. refl) h)
 meant_stands text a (meaning.Leaf l) t w base before s s' is h =
     let e : one_more s ≡ s' = cc in subst (λ x. Stands base before x (meant text a (meaning.Leaf l) t w).reading) e
-        (leaf_stands base before s w.reading (meant text a (meaning.Leaf l) t w).reading _ refl refl (leaf_word l) h)
+    (leaf_stands base before s w.reading (meant text a (meaning.Leaf l) t w).reading _ refl refl (leaf_word l) h)
 meant_stands text a meaning.Name t w base before s s' is h = name_stands a t (name_meaning (bytes_of text t)) w base before s s' is h
 meant_stands text a (meaning.Operator o) t w base before s s' is h = operator_stands a o t.from w base before s s' is h
 meant_stands text a meaning.Absolute t w base before s s' is h =
@@ -211,14 +210,6 @@ at_taken t text a k ks w (x ∷ ts) is h =
     let r : (meant text a (meaning_of t x.kind) x (record w { rest = ts })).rest ≡ ts = rest_meant text a (meaning_of t x.kind) x (record w { rest = ts }) in
     let n = subst (Every (λ (y : Token). HasNumber y.kind)) is h.numbers in
     record { kinds = ap kinds_of r ∙ (cc); numbers = subst (Every (λ (y : Token). HasNumber y.kind)) (sym r) n.1 }
-
-pub rest_entered : (a : Action) (w : Walk) → (entered a w).rest ≡ w.rest
-rest_entered (action.Element k) w = refl
-rest_entered (action.Take d) w = refl
-rest_entered action.NamedEnd w = refl
-rest_entered action.Level w = refl
-rest_entered action.Tail w = refl
-rest_entered other w = refl
 
 pub at_same : (ks : List ℕ) (w v : Walk) → v.rest ≡ w.rest → IsAt ks w → IsAt ks v
 at_same ks w v is h = record { kinds = ap kinds_of is ∙ h.kinds; numbers = subst (Every (λ (y : Token). HasNumber y.kind)) (sym is) h.numbers }
@@ -246,13 +237,9 @@ taken_stands t text a k ks w (x ∷ ts) base before s s' is h e stands =
     let n = subst (Every (λ (y : Token). HasNumber y.kind)) is h.numbers in
     let m : meaning_at t k ≡ meaning_of t x.kind = ap (meaning_at t) (sym one) ∙ meaning_same t x.kind n.0 in
     meant_stands text a (meaning_of t x.kind) x (record w { rest = ts }) base before s s' (ap (λ y. token_effect a y s) (sym m) ∙ e)
-        (record { nodes = stands.nodes; waiting = stands.waiting })
+    (record { nodes = stands.nodes; waiting = stands.waiting })
 
 -- Facts of the tests.
-
-both_true : (a b : Bool) → (a && b) ≡ true → (a ≡ true) × (b ≡ true)
-both_true true b e = (refl, e)
-both_true false b e = cc
 
 pub rule_meets : (t : Tables) (claims : List Claim) (n p : ℕ) (rs : List Rule) (r : Rule) → all_meet t claims n rs ≡ true → slice_get rs p ≡ Some r
     → (meets_claim t claims (claim_at claims r.left) (action_at t (n + p)) r.right ≡ true) × (takes_whole t claims (action_at t (n + p)) r.right ≡ true)
@@ -260,18 +247,18 @@ rule_meets t claims n p [] r ok at = cc
 rule_meets t claims n zero (x ∷ rs) r ok at =
     let same : x ≡ r = cc in
     let b = both_true (meets_claim t claims (claim_at claims x.left) (action_at t n) x.right && takes_whole t claims (action_at t n) x.right)
-        (all_meet t claims (suc n) rs) ok in
+    (all_meet t claims (suc n) rs) ok in
     let c = both_true (meets_claim t claims (claim_at claims x.left) (action_at t n) x.right) (takes_whole t claims (action_at t n) x.right) b.0 in
     let z : n ≡ n + 0 = omega arith in
     subst (λ k. (meets_claim t claims (claim_at claims r.left) (action_at t k) r.right ≡ true) × (takes_whole t claims (action_at t k) r.right ≡ true)) z
     (subst (λ (y : Rule). (meets_claim t claims (claim_at claims y.left) (action_at t n) y.right ≡ true)
-        × (takes_whole t claims (action_at t n) y.right ≡ true)) same c)
+    × (takes_whole t claims (action_at t n) y.right ≡ true)) same c)
 rule_meets t claims n (suc p) (x ∷ rs) r ok at =
     let b = both_true (meets_claim t claims (claim_at claims x.left) (action_at t n) x.right && takes_whole t claims (action_at t n) x.right)
-        (all_meet t claims (suc n) rs) ok in
+    (all_meet t claims (suc n) rs) ok in
     let z : suc n + p ≡ n + suc p = omega arith in
     subst (λ k. (meets_claim t claims (claim_at claims r.left) (action_at t k) r.right ≡ true)
-        × (takes_whole t claims (action_at t k) r.right ≡ true)) z (rule_meets t claims (suc n) p rs r b.1 at)
+    × (takes_whole t claims (action_at t k) r.right ≡ true)) z (rule_meets t claims (suc n) p rs r b.1 at)
 
 some_effect : (t : Tables) (claims : List Claim) (a : Action) (ss : List Symbol) (o : Option Effect) (s : Effect) → effects t claims a ss o ≡ Some s
     → (x : Effect) × (o ≡ Some x)
@@ -357,7 +344,7 @@ plain_same other w v is = cc
 
 level_node : (t : Tables) (claims : List Claim) (ss : List Symbol) (w v : Walk) (base : ℕ) (before : Option Waiting) (s : Effect)
     → is_free 1 (level_end (effects t claims action.Level ss (Some (effect 0 Free)))) ≡ true → Below t claims action.Level ss (entered action.Level w) v
-        → Stands base before s w.reading
+    → Stands base before s w.reading
     → Stands base before (one_more s) (left action.Level (saved action.Level w) v).reading
 level_node t claims ss w v base before s ok on h = go (effects t claims action.Level ss (Some (effect 0 Free))) refl where
   go : (o : Option Effect) → effects t claims action.Level ss (Some (effect 0 Free)) ≡ o
@@ -374,7 +361,7 @@ level_node t claims ss w v base before s ok on h = go (effects t claims action.L
 plain_node : (t : Tables) (claims : List Claim) (a : Action) (ss : List Symbol) (w v : Walk) (base n : ℕ) (before : Option Waiting) (s s' : Effect)
     → is_plain a ≡ true
     → is_kept n (effects t claims a ss (Some (effect 0 Kept))) ≡ true → s'.values ≡ s.values + n → s'.waits ≡ s.waits → Below t claims a ss (entered a w) v
-        → Stands base before s w.reading
+    → Stands base before s w.reading
     → Stands base before s' (left a (saved a w) v).reading
 plain_node t claims a ss w v base n before s s' plain ok values waits on h =
     let p = plain_same a w v plain in
@@ -389,12 +376,12 @@ plain_node t claims a ss w v base n before s s' plain ok values waits on h =
 
 tail_node : (t : Tables) (claims : List Claim) (ss : List Symbol) (w v : Walk) (base : ℕ) (before : Option Waiting) (s s' : Effect)
     → is_free 1 (effects t claims action.Tail ss (Some (effect 1 Free))) ≡ true → tail_effect s.values s.waits ≡ Some s'
-        → Below t claims action.Tail ss (entered action.Tail w) v
+    → Below t claims action.Tail ss (entered action.Tail w) v
     → Stands base before s w.reading → Stands base before s' v.reading
 tail_node t claims ss w v base before s s' ok is on h =
     let x = tail_stands base s.values s.waits before w.reading s' is h in
     let e : effects t claims action.Tail ss (Some (effect 1 Free)) ≡ Some (effect 1 Free) =
-        free_effect 1 (effects t claims action.Tail ss (Some (effect 1 Free))) ok in
+    free_effect 1 (effects t claims action.Tail ss (Some (effect 1 Free))) ok in
     let i = on (base + x.0) before (effect 1 Free) (effect 1 Free) e (record { nodes = x.2; waiting = refl }) in
     subst (λ y. Stands base before y v.reading) (sym x.1) (record { nodes = i.nodes ∙ ap Some (omega arith); waiting = i.waiting })
 
@@ -402,9 +389,9 @@ tail_node t claims ss w v base before s s' ok is on h =
 sign_node : (t : Tables) (claims : List Claim) (text : List ℕ) (g : Table) (a : Action) (ss : List Symbol) (below : Forest) (test : Meaning
     → Bool) (ks : List ℕ) (w : Walk) → is_plain a ≡ true → is_star a ≡ false
     → one_sign t test ss ≡ true → ((m : Meaning) → test m ≡ true → (o : Operator) × (m ≡ meaning.Operator o)) → IsDerivation g ss below
-        → IsAt (tokens below ++ ks) w
+    → IsAt (tokens below ++ ks) w
     → (o : Operator) × (test (meaning.Operator o) ≡ true)
-        × ((place : ℕ) × ((walk t text a below w).reading ≡ record w.reading { operator = Some (record { operator = o; place = place }) }))
+    × ((place : ℕ) × ((walk t text a below w).reading ≡ record w.reading { operator = Some (record { operator = o; place = place }) }))
 sign_node t claims text g a [] below test ks w plain star one sort d at = cc
 sign_node t claims text g a (Inner b ∷ ss) below test ks w plain star one sort d at = cc
 sign_node t claims text g a (Terminal k ∷ s ∷ ss) below test ks w plain star one sort d at = cc
@@ -464,7 +451,7 @@ node_stands t claims text g Whole a ss below ks w base before s s' ok is d at on
   by_action other same ok on = subst (λ x. Stands base before s' (left x (saved x w) (walk t text x below (entered x w))).reading) (sym same)
       (let b = both_true (is_plain other) (is_kept 1 (effects t claims other ss (Some (effect 0 Kept)))) ok in
       plain_node t claims other ss w (walk t text other below (entered other w)) base 1 before s s' b.0 b.1
-          (ap (λ (y : Effect). y.values) (sym e) ∙ omega arith) (ap (λ (y : Effect). y.waits) (sym e)) on h)
+      (ap (λ (y : Effect). y.values) (sym e) ∙ omega arith) (ap (λ (y : Effect). y.waits) (sym e)) on h)
 node_stands t claims text g Tail action.Tail ss below ks w base before s s' ok is d at on h =
     tail_node t claims ss w (walk t text action.Tail below (entered action.Tail w)) base before s s' ok is on h
 node_stands t claims text g Tail a ss below ks w base before s s' ok is d at on h = cc
@@ -474,7 +461,7 @@ node_stands t claims text g Between a ss below ks w base before s s' ok is d at 
     let p = plain_same a w (walk t text a below (entered a w)) b.0 in
     let same : (entered a w).rest ≡ w.rest = rest_entered a w in
     let x = sign_node t claims text g a ss below is_between ks (entered a w) b.0 (not_true (is_star a) c.0) c.1
-        (λ m y. (operator.Binary (between_is m y).0, (between_is m y).1)) d (at_same (tokens below ++ ks) w (entered a w) same at) in
+    (λ m y. (operator.Binary (between_is m y).0, (between_is m y).1)) d (at_same (tokens below ++ ks) w (entered a w) same at) in
     let o = between_is (meaning.Operator x.0) x.1 in
     let e : effect s.values ForTwo ≡ s' = over_free ForTwo s.values s.waits s' is in
     let r : (left a (saved a w) (walk t text a below (entered a w))).reading ≡ record w.reading { operator = Some (record { operator = x.0; place = x.2.0 }) } =
@@ -488,7 +475,7 @@ node_stands t claims text g BeforeOne a ss below ks w base before s s' ok is d a
     let p = plain_same a w (walk t text a below (entered a w)) b.0 in
     let same : (entered a w).rest ≡ w.rest = rest_entered a w in
     let x = sign_node t claims text g a ss below is_before_one ks (entered a w) b.0 (not_true (is_star a) c.0) c.1 before_one_is d
-        (at_same (tokens below ++ ks) w (entered a w) same at) in
+    (at_same (tokens below ++ ks) w (entered a w) same at) in
     let e : effect s.values ForOne ≡ s' = over_free ForOne s.values s.waits s' is in
     let r : (left a (saved a w) (walk t text a below (entered a w))).reading ≡ record w.reading { operator = Some (record { operator = x.0; place = x.2.0 }) } =
     p.1 ∙ (x.2.1 ∙ ap (λ (y : Reading). record y { operator = Some (record { operator = x.0; place = x.2.0 }) }) p.0) in
@@ -498,14 +485,14 @@ node_stands t claims text g Silent a ss below ks w base before s s' ok is d at o
     let e : s ≡ s' = cc in
     let b = both_true (is_plain a) (is_kept 0 (effects t claims a ss (Some (effect 0 Kept)))) ok in
     plain_node t claims a ss w (walk t text a below (entered a w)) base 0 before s s' b.0 b.1 (ap (λ (y : Effect). y.values) (sym e) ∙ omega arith)
-        (ap (λ (y : Effect). y.waits) (sym e)) on h
+    (ap (λ (y : Effect). y.waits) (sym e)) on h
 node_stands t claims text g Other a ss below ks w base before s s' ok is d at on h = cc
 
 -- the walk over a derivation of symbols does what their claims say
 pub walk_stands : (t : Tables) (claims : List Claim) (text : List ℕ) (g : Table) → are_wholes t claims g ≡ true
     → (f : Forest) (ss : List Symbol) (a : Action) (ks : List ℕ) (w : Walk) (base : ℕ) (before : Option Waiting) (s s' : Effect)
     → IsDerivation g ss f → IsAt (tokens f ++ ks) w → effects t claims a ss (Some s) ≡ Some s' → Stands base before s w.reading
-        → Stands base before s' (walk t text a f w).reading
+    → Stands base before s' (walk t text a f w).reading
 walk_stands t claims text g ok Nothing [] a ks w base before s s' d at e h = let same : s ≡ s' = cc in subst (λ x. Stands base before x w.reading) same h
 walk_stands t claims text g ok Nothing (Terminal k ∷ ss) a ks w base before s s' d at e h = absurd d
 walk_stands t claims text g ok Nothing (Inner b ∷ ss) a ks w base before s s' d at e h = absurd d
@@ -516,7 +503,7 @@ walk_stands t claims text g ok (Leaf j f) (Terminal k ∷ ss) a ks w base before
     let same : meaning_at t j ≡ meaning_at t k = ap (meaning_at t) d.0 in
     let one = taken_stands t text a j (tokens f ++ ks) w w.rest base before s x.0 refl at (ap (λ m. token_effect a m s) same ∙ x.1) h in
     walk_stands t claims text g ok f ss a ks (taken t text a w) base before x.0 s' d.1 (at_taken t text a j (tokens f ++ ks) w w.rest refl at)
-        (ap (effects t claims a ss) (sym x.1) ∙ e) one
+    (ap (effects t claims a ss) (sym x.1) ∙ e) one
 walk_stands t claims text g ok (Branch p below f) [] a ks w base before s s' d at e h = absurd d
 walk_stands t claims text g ok (Branch p below f) (Terminal k ∷ ss) a ks w base before s s' d at e h = absurd d
 walk_stands t claims text g ok (Branch p below f) (Inner c ∷ ss) a ks w base before s s' d at e h =
@@ -528,11 +515,11 @@ walk_stands t claims text g ok (Branch p below f) (Inner c ∷ ss) a ks w base b
     let zero_add : 0 + p ≡ p = omega arith in
     let meets_here : meets_claim t claims (claim_at claims c) b r.right ≡ true =
     subst (λ y. meets_claim t claims (claim_at claims y) b r.right ≡ true) d.0.2
-        (subst (λ q. meets_claim t claims (claim_at claims r.left) (action_at t q) r.right ≡ true) zero_add meets.0) in
+    (subst (λ q. meets_claim t claims (claim_at claims r.left) (action_at t q) r.right ≡ true) zero_add meets.0) in
     let here : IsAt (tokens below ++ (tokens f ++ ks)) w = record { kinds = at.kinds ∙ append_assoc (tokens below) (tokens f) ks; numbers = at.numbers } in
     let begun : IsAt (tokens below ++ (tokens f ++ ks)) (entered b w) = at_same (tokens below ++ (tokens f ++ ks)) w (entered b w) (rest_entered b w) here in
     let one = node_stands t claims text g (claim_at claims c) b r.right below (tokens f ++ ks) w base before s x.0 meets_here x.1 d.0.3 here
     (λ base' before' q q' y z. walk_stands t claims text g ok below r.right b (tokens f ++ ks) (entered b w) base' before' q q' d.0.3 begun y z) h in
     let after : IsAt (tokens f ++ ks) (left b (saved b w) v) =
-        at_same (tokens f ++ ks) v (left b (saved b w) v) (rest_left b (saved b w) v) (walk_at t text b below (tokens f ++ ks) (entered b w) begun) in
+    at_same (tokens f ++ ks) v (left b (saved b w) v) (rest_left b (saved b w) v) (walk_at t text b below (tokens f ++ ks) (entered b w) begun) in
     walk_stands t claims text g ok f ss a ks (left b (saved b w) v) base before x.0 s' d.1 after (ap (effects t claims a ss) (sym x.1) ∙ e) one

@@ -1,21 +1,17 @@
 -- What the claims about roles say holds of the walk over each derivation.
-use Rattle.std.proofs.Common.{◌≡◌, ℕ, zero, suc, ◌+◌, ◌<◌, ◌≤◌, Bool, true, false, ◌&&◌, cond, List, [], ◌∷◌, ◌++◌, length, refl, ap, sym, subst, ◌∙◌, arith, append_assoc, length-append}
+use Rattle.std.proofs.Common.{◌≡◌, ℕ, zero, suc, ◌+◌, ◌<◌, Bool, true, false, ◌&&◌, cond, List, [], ◌∷◌, ◌++◌, length, refl, ap, sym, subst, ◌∙◌, arith}
 use Rattle.std.specs.Prelude.{slice_get, not, ◌||◌, Option, Some, None}
 use Rattle.std.specs.List.{list_all}
 use Rattle.element_store.specs.declared.kind.Kind.{Kind}
 use Rattle.element_store.specs.declared.kind.Kind.TheVariants as kind
 use Rattle.element_store.specs.declared.outcome.Role.{Role}
 use Rattle.element_store.specs.declared.outcome.Role.TheVariants as role
-use Rattle.element_store.specs.declared.lists.Item.{Item}
-use Rattle.element_store.specs.declared.lists.Item.TheVariants as item
 use Rattle.element_store.specs.Kinds.{is_type, is_feature, is_comment}
 use Rattle.element_store.specs.Condition.{role_fits}
 use Rattle.token_core.specs.declared.token.Token.{Token}
-use Rattle.token_core.specs.Reading.{bytes_of, name_meaning, number_from}
+use Rattle.token_core.specs.Reading.{bytes_of, name_meaning}
 use Rattle.ll_core.specs.declared.grammar.Symbol.{Symbol}
-use Rattle.ll_core.specs.declared.grammar.Symbol.TheVariants.{Terminal, Inner}
-use Rattle.ll_core.specs.Table.{Rule, Table}
-use Rattle.ll_core.specs.Derives.{Forest, Nothing, Token as Leaf, Node as Branch, IsDerivation, tokens}
+use Rattle.ll_core.specs.Table.{Rule}
 use Rattle.text_model.specs.declared.action.Action.{Action}
 use Rattle.text_model.specs.declared.action.Action.TheVariants as action
 use Rattle.text_model.specs.declared.action.Taking.{Taking}
@@ -24,11 +20,9 @@ use Rattle.text_model.specs.declared.action.Operator.{Operator}
 use Rattle.text_model.specs.declared.action.Meaning.{Meaning}
 use Rattle.text_model.specs.declared.action.Meaning.TheVariants as meaning
 use Rattle.text_model.specs.declared.draft.Path.{Path}
-use Rattle.text_model.specs.declared.draft.Mention.{Mention}
 use Rattle.text_model.specs.declared.draft.Draft.{Draft}
-use Rattle.text_model.specs.declared.draft.Reading.{Reading}
 use Rattle.text_model.specs.Tables.{Tables, action_at, meaning_of}
-use Rattle.text_model.specs.Drafts.{draft, definition_of, name_in, names, named_changed, last_changed, joining, joined, applying, applied, mention, mentions, own_role, adjusted}
+use Rattle.text_model.specs.Drafts.{definition_of, name_in, names, named_changed, last_changed, joining, joined, applying, applied, mentions, own_role, adjusted}
 use Rattle.token_core.specs.Terminals.{terminal, HasNumber}
 use Rattle.text_model.specs.declared.action.Operator.TheVariants as operator
 use Rattle.element_store.specs.declared.expression.BinaryOp.TheVariants as binary
@@ -40,13 +34,14 @@ use Rattle.text_model.specs.declared.draft.DraftNode.{DraftNode}
 use Rattle.text_model.specs.declared.draft.Waiting.{Waiting}
 use Rattle.text_model.specs.Profile.{kinds_of}
 use Rattle.text_model.specs.Wholes.{meaning_at}
-use Rattle.text_laws.proofs.Whole.{IsAt, at_taken, at_same, rest_entered, walk_at, meaning_same}
-use Rattle.text_laws.proofs.WalkFits.{rest_left}
-use Rattle.text_model.specs.Walk.{leaf_node, meant_name, meant_operator, Walk, Frame, saved, changed, with_item, entered, given, left, named, meant, taken, taken_from, walk}
+use Rattle.text_laws.proofs.WholeLaws.{IsAt, meaning_same}
+use Rattle.text_model.specs.Walk.{leaf_node, meant_name, meant_operator, Walk, changed, meant, taken_from}
 use Rattle.text_model.specs.Numbering.{draft_at}
 use Rattle.text_laws.specs.Fits.{Every}
-use Rattle.text_model.specs.Roles.{is_root, Class, AnyKind, TypeKind, FeatureKind, CommentKind, RootKind, passes_class, covers, class_of, State, state, RoleClaim, role_claim_at, claimed, states, production_state, closes, takes, needs_of, is_role, begins_name, token_state, implies, is_stronger, flags, meets_roles, meets_all, all_roles, are_roles}
-use Rattle.text_laws.proofs.Lists.{length-adjusted}
+use Rattle.text_model.specs.Roles.{Class, AnyKind, TypeKind, FeatureKind, CommentKind, RootKind, passes_class, covers, class_of, State, state, RoleClaim, role_claim_at, claimed, production_state, needs_of, begins_name, token_state, implies, is_stronger, flags, meets_roles, meets_all, all_roles}
+use Rattle.text_laws.proofs.ListLemmas.{length-adjusted}
+use Rattle.linker_base.proofs.Cases.{both_true}
+use Rattle.text_laws.proofs.ListLemmas.{names-append}
 
 -- Classes.
 
@@ -119,10 +114,6 @@ comment_own other e = cc
 
 -- Facts of the tests.
 
-pub both_true : (a b : Bool) → (a && b) ≡ true → (a ≡ true) × (b ≡ true)
-both_true true b e = (refl, e)
-both_true false b e = cc
-
 four_pass : (test : State → Bool) (n : Class) → list_all test (flags n) ≡ true → (t l : Bool) → test (state n t l) ≡ true
 four_pass test n e t l =
     let a = both_true (test (state n false false)) (list_all test (state n false true ∷ state n true false ∷ state n true true ∷ [])) e in
@@ -142,16 +133,16 @@ pub state_meets : (t : Tables) (claims : List RoleClaim) (c : RoleClaim) (a : Ac
 state_meets t claims c a ss ok s =
     let test : State → Bool = meets_roles t claims c a ss in
     let x0 = both_true (list_all test (flags AnyKind)) (list_all test (flags TypeKind)
-        && (list_all test (flags FeatureKind) && (list_all test (flags CommentKind) && list_all test (flags RootKind)))) ok in
+    && (list_all test (flags FeatureKind) && (list_all test (flags CommentKind) && list_all test (flags RootKind)))) ok in
     let x1 = both_true (list_all test (flags TypeKind)) (list_all test (flags FeatureKind)
-        && (list_all test (flags CommentKind) && list_all test (flags RootKind))) x0.1 in
+    && (list_all test (flags CommentKind) && list_all test (flags RootKind))) x0.1 in
     let x2 = both_true (list_all test (flags FeatureKind)) (list_all test (flags CommentKind) && list_all test (flags RootKind)) x1.1 in
     let x3 = both_true (list_all test (flags CommentKind)) (list_all test (flags RootKind)) x2.1 in
     go s.class x0.0 x1.0 x2.0 x3.0 x3.1 where
       go : (n : Class) → list_all (meets_roles t claims c a ss) (flags AnyKind) ≡ true → list_all (meets_roles t claims c a ss) (flags TypeKind) ≡ true
           → list_all (meets_roles t claims c a ss) (flags FeatureKind) ≡ true
           → list_all (meets_roles t claims c a ss) (flags CommentKind) ≡ true → list_all (meets_roles t claims c a ss) (flags RootKind) ≡ true
-              → meets_roles t claims c a ss (state n s.taken s.loose) ≡ true
+          → meets_roles t claims c a ss (state n s.taken s.loose) ≡ true
       go AnyKind p q u v x = four_pass (meets_roles t claims c a ss) AnyKind p s.taken s.loose
       go TypeKind p q u v x = four_pass (meets_roles t claims c a ss) TypeKind q s.taken s.loose
       go FeatureKind p q u v x = four_pass (meets_roles t claims c a ss) FeatureKind u s.taken s.loose
@@ -166,7 +157,7 @@ rule_roles t claims n zero (x ∷ rs) r ok at =
     let b = both_true (meets_all t claims (role_claim_at claims x.left) (action_at t n) x.right) (all_roles t claims (suc n) rs) ok in
     let z : n ≡ n + 0 = omega arith in
     subst (λ k. meets_all t claims (role_claim_at claims r.left) (action_at t k) r.right ≡ true) z
-      (subst (λ (y : Rule). meets_all t claims (role_claim_at claims y.left) (action_at t n) y.right ≡ true) same b.0)
+    (subst (λ (y : Rule). meets_all t claims (role_claim_at claims y.left) (action_at t n) y.right ≡ true) same b.0)
 rule_roles t claims n (suc p) (x ∷ rs) r ok at =
     let b = both_true (meets_all t claims (role_claim_at claims x.left) (action_at t n) x.right) (all_roles t claims (suc n) rs) ok in
     let z : suc n + p ≡ n + suc p = omega arith in
@@ -271,10 +262,6 @@ roles_changed s f w same h =
 
 -- Names in the reading.
 
-names-append : (ns ms : List DraftNode) → names (ns ++ ms) ≡ names ns ++ names ms
-names-append [] ms = refl
-names-append (x ∷ ns) ms = ap (λ ps. name_in x.what ++ ps) (names-append ns ms) ∙ sym (append_assoc (name_in x.what) (names ns) (names ms))
-
 empty_both : {A : Type 0} (xs ys : List A) → xs ++ ys ≡ [] → (xs ≡ []) × (ys ≡ [])
 empty_both [] ys e = (refl, e)
 empty_both (x ∷ xs) ys e = cc
@@ -332,7 +319,7 @@ roles_loose : (s : State) (b : Bool) (w v : Walk) → v.elements ≡ w.elements 
     → RolesAt (state s.class s.taken (s.loose || b)) v
 roles_loose s b w v elements current free h =
     let k : RolesAt (state s.class s.taken (s.loose || b)) w =
-        record { fits = h.fits; class = h.class; clear = h.clear; own = h.own; free = λ f. h.free (or_false s.loose b f).0; within = h.within } in
+    record { fits = h.fits; class = h.class; clear = h.clear; own = h.own; free = λ f. h.free (or_false s.loose b f).0; within = h.within } in
     roles_read (state s.class s.taken (s.loose || b)) w v elements current (λ f. free (or_false s.loose b f).1 (h.free (or_false s.loose b f).0)) k
 
 name_roles : (a : Action) (t : Token) (bytes : List ℕ) (w : Walk) (s s' : State) → Some (state s.class s.taken (s.loose || begins_name a)) ≡ Some s'
@@ -395,7 +382,7 @@ meant_roles text a meaning.Def t w s s' is h = go s.taken refl (covers s.class T
   go false same false covered is = cc
   go false same true covered is = same_state (state TypeKind false s.loose) s' (meant text a meaning.Def t w) is
       (kind_roles TypeKind s.loose s (λ d. record d { kind = definition_of d.kind }) w (λ d. (refl, refl, refl)) same (λ e. e)
-        (definition_type (draft_at w.elements w.current).kind (covers_passes s.class TypeKind (draft_at w.elements w.current).kind covered h.class)) h)
+      (definition_type (draft_at w.elements w.current).kind (covers_passes s.class TypeKind (draft_at w.elements w.current).kind covered h.class)) h)
 meant_roles text a meaning.Comment t w s s' is h = same_state s s' _ is (roles_changed s _ w (λ d. (refl, refl, refl, refl)) h)
 meant_roles text a meaning.Text t w s s' is h = same_state s s' _ is
     (roles_read s w (meant text a meaning.Text t w) refl refl (λ f. pushed_free w.reading.nodes _ refl (h.free f)) h)
@@ -417,4 +404,4 @@ taken_roles t text a k ks w (x ∷ ts) s s' is at e h =
     let n = subst (Every (λ (y : Token). HasNumber y.kind)) is at.numbers in
     let m : meaning_at t k ≡ meaning_of t x.kind = ap (meaning_at t) (sym one) ∙ meaning_same t x.kind n.0 in
     meant_roles text a (meaning_of t x.kind) x (record w { rest = ts }) s s' (ap (λ y. token_state a y s) (sym m) ∙ e)
-        (roles_read s w (record w { rest = ts }) refl refl (λ f. h.free f) h)
+    (roles_read s w (record w { rest = ts }) refl refl (λ f. h.free f) h)

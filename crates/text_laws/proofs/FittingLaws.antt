@@ -1,6 +1,6 @@
 -- Every walk over every forest fits.
-use Rattle.std.proofs.Common.{◌≡◌, ℕ, zero, suc, ◌+◌, ◌-◌, ◌≤◌, List, [], ◌∷◌, ◌++◌, length, refl, ap, sym, subst, ◌∙◌, arith, length-append}
-use Rattle.std.specs.Prelude.{Bool, true, Option, Some, None}
+use Rattle.std.proofs.Common.{◌≡◌, ℕ, zero, suc, ◌+◌, ◌-◌, ◌≤◌, List, [], ◌∷◌, ◌++◌, length, refl, ap, sym, subst, arith, length-append}
+use Rattle.std.specs.Prelude.{true, Option, Some, None}
 use Rattle.element_store.specs.declared.kind.Kind.{Kind}
 use Rattle.element_store.specs.declared.outcome.Role.{Role}
 use Rattle.element_store.specs.declared.outcome.Role.TheVariants as role
@@ -11,7 +11,7 @@ use Rattle.token_core.specs.declared.token.Token.{Token}
 use Rattle.token_core.specs.Reading.{bytes_of, name_meaning, string_meaning, number_from}
 use Rattle.ll_core.specs.Derives.{Forest, Nothing, Token as Leaf, Node}
 use Rattle.text_model.specs.declared.action.Action.{Action}
-use Rattle.text_model.specs.declared.action.Action.TheVariants.{Group, Name, Short, Segment, Step, Star, NamedEnd, Element, Take, Level, Tail}
+use Rattle.text_model.specs.declared.action.Action.TheVariants.{Name, Short, Segment, Step, Star, NamedEnd, Element, Take, Level, Tail}
 use Rattle.text_model.specs.declared.action.Taking.{Taking}
 use Rattle.text_model.specs.declared.action.Taking.TheVariants as taking
 use Rattle.text_model.specs.declared.action.Operator.{Operator}
@@ -29,10 +29,10 @@ use Rattle.text_model.specs.declared.draft.Draft.{Draft}
 use Rattle.text_model.specs.declared.draft.Reading.{Reading}
 use Rattle.text_model.specs.declared.draft.Waiting.{Waiting}
 use Rattle.text_model.specs.Tables.{Tables, action_at, meaning_of}
-use Rattle.text_model.specs.Drafts.{draft, node, name_in, names, first_name, path_or, first_text, named_changed, last_changed, with_segment, with_step, joining, joined, applying, applied, mention, mentions, adjusted, marked, definition_of}
-use Rattle.text_model.specs.Walk.{Walk, Frame, kept, saved, changed, with_item, with_inner, entered, expression, named, given, left, path_of, begins_name, meant_name, meant_operator, leaf_node, is_large, meant_integer, meant, taken_from, taken, walk, comment_meaning}
+use Rattle.text_model.specs.Drafts.{draft, node, name_in, names, first_name, path_or, named_changed, last_changed, with_segment, with_step, joining, joined, applying, applied, mention, mentions, adjusted, marked, definition_of}
+use Rattle.text_model.specs.Walk.{Walk, Frame, saved, changed, with_item, with_inner, entered, named, given, left, begins_name, meant_name, meant_operator, leaf_node, meant_integer, meant, taken_from, taken, walk, comment_meaning}
 use Rattle.text_model.specs.Numbering.{nodes_of}
-use Rattle.text_laws.specs.Fits.{Every, PathFits, WhatFits, NodesFit, SpecFits, DraftFits, waits, ReadingFits, WalkFits}
+use Rattle.text_laws.specs.Fits.{Every, PathFits, NameFits, WhatFits, NodesFit, SpecFits, DraftFits, waits, ReadingFits, WalkFits}
 
 -- Every.
 
@@ -43,6 +43,14 @@ every_on P Q (x ∷ xs) on e = (on x e.0, every_on P Q xs on e.1)
 pub every_append : {A : Type 0} (P : A → Type 0) (xs ys : List A) → Every P xs → Every P ys → Every P (xs ++ ys)
 every_append P [] ys e f = f
 every_append P (x ∷ xs) ys e f = (e.0, every_append P xs ys e.1 f)
+
+pub every_front : {A : Type 0} (P : A → Type 0) (xs ys : List A) → Every P (xs ++ ys) → Every P xs
+every_front P [] ys h = tt
+every_front P (x ∷ xs) ys h = (h.0, every_front P xs ys h.1)
+
+pub every_back : {A : Type 0} (P : A → Type 0) (xs ys : List A) → Every P (xs ++ ys) → Every P ys
+every_back P [] ys h = h
+every_back P (x ∷ xs) ys h = every_back P xs ys h.1
 
 pub every_adjusted : {A : Type 0} (P : A → Type 0) (c : ℕ) (f : A → A) (xs : List A) → ((x : A) → P x → P (f x)) → Every P xs → Every P (adjusted c f xs)
 every_adjusted P c f [] on e = tt
@@ -69,7 +77,7 @@ draft_later n r s d le h = record {
   bounds = nodes_later n r s d.bounds le h.bounds;
   value = nodes_later n r s (nodes_of d.value) le h.value;
   result = nodes_later n r s (nodes_of d.result) le h.result;
-  inner = every_on (λ m. PathFits n r m.path) (λ m. PathFits n s m.path) d.inner (λ m k. path_later n r s m.path le k) h.inner;
+  inner = h.inner;
   short_value = omega (arith, le, h.short_value);
   short_result = omega (arith, le, h.short_result);
 }
@@ -83,13 +91,16 @@ names_fit n r (x ∷ ns) h = every_append (PathFits n r) (name_in x.what) (names
   one (what.Named p) k = (k, tt)
   one other k = tt
 
-first_fits : (n r : ℕ) (ps : List Path) → r + 1 ≤ n → Every (PathFits n r) ps → PathFits n r (first_name ps)
-first_fits n r [] few h = record { some = omega arith; short = omega (arith, few) }
-first_fits n r (p ∷ ps) few h = h.0
+pub name_fits_in : (n r : ℕ) (p : Path) → PathFits n r p → NameFits n p
+name_fits_in n r p h = record { some = h.some; short = omega (arith, h.short) }
 
-path_fits : (n r place : ℕ) (ps : List Path) → r + 1 ≤ n → Every (PathFits n r) ps → PathFits n r (path_or place ps)
-path_fits n r place [] few h = record { some = omega arith; short = omega (arith, few) }
-path_fits n r place (p ∷ ps) few h = h.0
+first_fits : (n r : ℕ) (ps : List Path) → Every (PathFits n r) ps → NameFits n (first_name ps)
+first_fits n r [] h = record { some = omega arith; short = omega arith }
+first_fits n r (p ∷ ps) h = name_fits_in n r p h.0
+
+path_fits : (n r place : ℕ) (ps : List Path) → Every (PathFits n r) ps → NameFits n (path_or place ps)
+path_fits n r place [] h = record { some = omega arith; short = omega arith }
+path_fits n r place (p ∷ ps) h = name_fits_in n r p h.0
 
 mentions_fit : (n r : ℕ) (which : Role) (ps : List Path) → is_own which ≡ true → Every (PathFits n r) ps → Every (SpecFits n r) (mentions which ps)
 mentions_fit n r which [] own h = tt
@@ -110,8 +121,11 @@ length-last f (x ∷ []) = refl
 length-last f (x ∷ y ∷ ns) = ap suc (length-last f (y ∷ ns))
 
 segment_fits : (n r : ℕ) (bytes : List ℕ) (p : Path) → PathFits n (suc r) p → PathFits n r (with_segment bytes p)
-segment_fits n r bytes p h = record { some = omega (arith, h.some, length-append p.path (bytes ∷ [])); short =
-    omega (arith, h.short, length-append p.path (bytes ∷ [])) }
+segment_fits n r bytes p h = record {
+  some = omega (arith, h.some, length-append p.path (bytes ∷ []));
+  short =
+      omega (arith, h.short, length-append p.path (bytes ∷ []));
+}
 
 step_fits : (n r : ℕ) (bytes : List ℕ) (p : Path) → PathFits n (suc r) p → PathFits n r (with_step bytes p)
 step_fits n r bytes p h = record { some = h.some; short = omega (arith, h.short, length-append p.chain (bytes ∷ [])) }
@@ -130,8 +144,11 @@ joined_adds : (n r : ℕ) (ns : List DraftNode) (o : Option Waiting) → NodesFi
 joined_adds n r ns None h = record { fits = h; short = omega arith }
 joined_adds n r ns (Some w) h =
     let j = joining_adds n r w.operator w.place in
-    record { fits = every_append (λ (x : DraftNode). WhatFits n r x.what) ns (joining w.operator w.place) h j.0; short =
-        omega (arith, j.1, length-append ns (joining w.operator w.place)) }
+    record {
+      fits = every_append (λ (x : DraftNode). WhatFits n r x.what) ns (joining w.operator w.place) h j.0;
+      short =
+          omega (arith, j.1, length-append ns (joining w.operator w.place));
+    }
 
 applying_adds : (n r : ℕ) (o : Operator) (place : ℕ) → NodesFit n r (applying o place) × (length (applying o place) ≤ 1)
 applying_adds n r operator.If place = ((tt, tt), omega arith)
@@ -144,8 +161,11 @@ applied_adds : (n r : ℕ) (ns : List DraftNode) (o : Option Waiting) → NodesF
 applied_adds n r ns None h = record { fits = h; short = omega arith }
 applied_adds n r ns (Some w) h =
     let j = applying_adds n r w.operator w.place in
-    record { fits = every_append (λ (x : DraftNode). WhatFits n r x.what) ns (applying w.operator w.place) h j.0; short =
-        omega (arith, j.1, length-append ns (applying w.operator w.place)) }
+    record {
+      fits = every_append (λ (x : DraftNode). WhatFits n r x.what) ns (applying w.operator w.place) h j.0;
+      short =
+          omega (arith, j.1, length-append ns (applying w.operator w.place));
+    }
 
 -- A token that is taken: before it one more token was to come.
 
@@ -153,7 +173,7 @@ record Before (m n : ℕ) (w : Walk) : Type 0 where
   drafts : Every (DraftFits n (length w.rest)) w.elements
   nodes : NodesFit n (suc (length w.rest)) w.reading.nodes
   short : length w.reading.nodes + waits w.reading.operator + suc (length w.rest) ≤ m
-  rest : length w.rest + 2 ≤ n
+  rest : length w.rest + 1 ≤ n
 
 untouched : (m n : ℕ) (w : Walk) → Before m n w → WalkFits m n w
 untouched m n w b = record {
@@ -164,8 +184,12 @@ untouched m n w b = record {
 
 changed_fits : (m n : ℕ) (f : Draft → Draft) (w : Walk) → ((d : Draft) → DraftFits n (length w.rest) d → DraftFits n (length w.rest) (f d)) → WalkFits m n w
     → WalkFits m n (changed f w)
-changed_fits m n f w on h = record { drafts = every_adjusted (DraftFits n (length w.rest)) w.current f w.elements on h.drafts; reading = h.reading; rest =
-    h.rest }
+changed_fits m n f w on h = record {
+  drafts = every_adjusted (DraftFits n (length w.rest)) w.current f w.elements on h.drafts;
+  reading = h.reading;
+  rest =
+      h.rest;
+}
 
 -- the parts that fitting speaks of are the same
 same_parts : (n r : ℕ) (d e : Draft) → e.own ≡ d.own → e.specs ≡ d.specs → e.bounds ≡ d.bounds → e.value ≡ d.value → e.result ≡ d.result → e.inner ≡ d.inner
@@ -176,7 +200,7 @@ same_parts n r d e own specs bounds value result inner h = record {
   bounds = subst (λ x. NodesFit n r x) (sym bounds) h.bounds;
   value = subst (λ x. NodesFit n r (nodes_of x)) (sym value) h.value;
   result = subst (λ x. NodesFit n r (nodes_of x)) (sym result) h.result;
-  inner = subst (λ x. Every (λ m. PathFits n r m.path) x) (sym inner) h.inner;
+  inner = subst (λ x. Every (λ m. NameFits n m.path) x) (sym inner) h.inner;
   short_value = subst (λ x. length (nodes_of x) + r ≤ n) (sym value) h.short_value;
   short_result = subst (λ x. length (nodes_of x) + r ≤ n) (sym result) h.short_result;
 }
@@ -305,9 +329,18 @@ taken_fits m n tables text a (t ∷ ts) w is h =
 
 -- What an action does at its beginning and at its end. A Level begins with no sign waiting, and so with one fewer at most.
 
-fresh_draft : (n r : ℕ) (k : Kind) (owner : Option ℕ) → r + 1 ≤ n → DraftFits n r (draft k owner)
-fresh_draft n r k owner few = record { own = tt; specs = tt; bounds = tt; value = tt; result = tt; inner = tt; short_value = omega (arith, few); short_result =
-    omega (arith, few) }
+fresh_draft : (n r : ℕ) (k : Kind) (owner : Option ℕ) → r ≤ n → DraftFits n r (draft k owner)
+fresh_draft n r k owner few = record {
+  own = tt;
+  specs = tt;
+  bounds = tt;
+  value = tt;
+  result = tt;
+  inner = tt;
+  short_value = omega (arith, few);
+  short_result =
+      omega (arith, few);
+}
 
 reading_later : (m n r s : ℕ) (x : Reading) → s ≤ r → ReadingFits m n r x → ReadingFits m n s x
 reading_later m n r s x le h = record { nodes = nodes_later n r s x.nodes le h.nodes; short = omega (arith, le, h.short) }
@@ -315,14 +348,14 @@ reading_later m n r s x le h = record { nodes = nodes_later n r s x.nodes le h.n
 item_fits : (n r : ℕ) (i : Item) (d : Draft) → DraftFits n r d → DraftFits n r (with_item i d)
 item_fits n r i d h = same_parts n r d (with_item i d) refl refl refl refl refl refl h
 
-inner_fits : (n r : ℕ) (i : Item) (which : Role) (p : Path) (d : Draft) → PathFits n r p → DraftFits n r d → DraftFits n r (with_inner i which p d)
+inner_fits : (n r : ℕ) (i : Item) (which : Role) (p : Path) (d : Draft) → NameFits n p → DraftFits n r d → DraftFits n r (with_inner i which p d)
 inner_fits n r i which p d one h = record {
   own = h.own;
   specs = h.specs;
   bounds = h.bounds;
   value = h.value;
   result = h.result;
-  inner = every_append (λ m. PathFits n r m.path) d.inner (mention which p ∷ []) h.inner (one, tt);
+  inner = every_append (λ m. NameFits n m.path) d.inner (mention which p ∷ []) h.inner (one, tt);
   short_value = h.short_value;
   short_result = h.short_result;
 }
@@ -379,13 +412,13 @@ given_fits m n taking.Result f x w r h = changed_fits m n _ w (λ d k. record {
 }) h
 given_fits m n taking.Alias f x w r h =
     let c = changed_fits m n (with_inner (item.Member (length w.members)) role.Alias (first_name (names x.nodes))) w
-    (λ d k. inner_fits n (length w.rest) _ role.Alias _ d (first_fits n (length w.rest) (names x.nodes) h.rest (names_fit n (length w.rest) x.nodes r.nodes)) k)
-        h in
+    (λ d k. inner_fits n (length w.rest) _ role.Alias _ d (first_fits n (length w.rest) (names x.nodes) (names_fit n (length w.rest) x.nodes r.nodes)) k)
+    h in
     record { drafts = c.drafts; reading = c.reading; rest = c.rest }
 given_fits m n taking.Import f x w r h =
     let c = changed_fits m n (with_inner (item.Import (length w.imports)) role.Import (path_or f.place (names x.nodes))) w
     (λ d k. inner_fits n (length w.rest) _ role.Import _ d
-        (path_fits n (length w.rest) f.place (names x.nodes) h.rest (names_fit n (length w.rest) x.nodes r.nodes)) k) h in
+    (path_fits n (length w.rest) f.place (names x.nodes) (names_fit n (length w.rest) x.nodes r.nodes)) k) h in
     record { drafts = c.drafts; reading = c.reading; rest = c.rest }
 
 pub rest_given : (d : Taking) (f : Frame) (x : Reading) (w : Walk) → (given d f x w).rest ≡ w.rest
@@ -440,11 +473,15 @@ node_fits m n NamedEnd w v le h on =
     record { fits = b.fits; fewer = b.fewer }
 node_fits m n Level w v le h on =
     let b = on (m - waits w.reading.operator) (omega (arith, le))
-        (record { drafts = h.drafts; reading = record { nodes = h.reading.nodes; short = omega (arith, h.reading.short) }; rest = h.rest }) in
+    (record { drafts = h.drafts; reading = record { nodes = h.reading.nodes; short = omega (arith, h.reading.short) }; rest = h.rest }) in
     let x = applied_adds n (length v.rest) v.reading.nodes v.reading.operator b.fits.reading.nodes in
     record {
-      fits = record { drafts = b.fits.drafts; reading = record { nodes = x.fits; short = omega (arith, x.short, b.fits.reading.short, h.reading.short) }; rest =
-          b.fits.rest };
+      fits = record {
+        drafts = b.fits.drafts;
+        reading = record { nodes = x.fits; short = omega (arith, x.short, b.fits.reading.short, h.reading.short) };
+        rest =
+            b.fits.rest;
+      };
       fewer = b.fewer;
     }
 node_fits m n Tail w v le h on =
@@ -467,6 +504,15 @@ walk_fits m n t text a (Node p below rest) w le h =
     let l = node_fits m n b w v le h (λ k low e. walk_fits k n t text b below (entered b w) low e) in
     let r = walk_fits m n t text a rest (left b (saved b w) v) le l.fits in
     record { fits = r.fits; fewer = omega (arith, l.fewer, r.fewer) }
+
+-- an action takes no token at its beginning or at its end
+pub rest_entered : (a : Action) (w : Walk) → (entered a w).rest ≡ w.rest
+rest_entered (Element k) w = refl
+rest_entered (Take d) w = refl
+rest_entered NamedEnd w = refl
+rest_entered Level w = refl
+rest_entered Tail w = refl
+rest_entered other w = refl
 
 pub rest_left : (a : Action) (f : Frame) (w : Walk) → (left a f w).rest ≡ w.rest
 rest_left (Element k) f w = refl

@@ -16,7 +16,6 @@ use Rattle.element_store.specs.declared.records.Reference.{Reference}
 use Rattle.element_store.specs.declared.lists.Item.{Item}
 use Rattle.element_store.specs.declared.lists.Item.TheVariants as item
 use Rattle.element_store.specs.Numbers.{those_where, chosen}
-use Rattle.element_store.specs.Model.{Data}
 use Rattle.element_store.specs.Expressions.{names_in, name_of, names_of_bounds}
 use Rattle.element_store.specs.Condition.{Told, told_from, is_own, own_of, told, told_by_member, told_by_item, held_by, names_of, by_element, IsByElement}
 use Rattle.text_model.specs.declared.draft.Path.{Path}
@@ -32,7 +31,7 @@ use Rattle.text_model.specs.declared.draft.DraftMember.{DraftMember}
 use Rattle.text_model.specs.declared.draft.DraftImport.{DraftImport}
 use Rattle.text_model.specs.Drafts.{names, name_in, mentions, own_role}
 use Rattle.text_model.specs.Walk.{Walk}
-use Rattle.text_laws.specs.Coherent.{Stock, stock, Held, held, held_target, held_member, held_import, held_from, Holds, EachFrom}
+use Rattle.text_laws.specs.Coherent.{stock, Held, held, held_target, held_member, held_import, held_from, Holds, EachFrom}
 use Rattle.text_laws.specs.Fits.{Every, SpecFits, DraftFits}
 use Rattle.text_model.specs.Numbering.{nodes_of, ends, own_mentions, bound_mentions, value_mentions, head, mentions_of, width, reference, references_from, node_of, after_node, numbered, numbered_in, end_of, bounds_of, bound_start, value_start, result_start, element, elements_from, base_from, member_of, member, import_of, model_of}
 
@@ -61,10 +60,6 @@ names_in-numbered n (x ∷ ns) = by_what (λ m. names_in-numbered m ns) x.what w
   by_what on (what.Named p) = ap (λ ks. n ∷ ks) (on (suc n))
   by_what on other = on n
 
-names-append : (ns ms : List DraftNode) → names (ns ++ ms) ≡ names ns ++ names ms
-names-append [] ms = refl
-names-append (x ∷ ns) ms = ap (λ ps. name_in x.what ++ ps) (names-append ns ms) ∙ sym (append_assoc (name_in x.what) (names ns) (names ms))
-
 ends_named : (n : ℕ) (w : What) → name_of (Some (end_of n w)) ≡ count_from n (length (name_in w))
 unfolding count_from
 ends_named n (what.Named p) = refl
@@ -81,10 +76,10 @@ bounds_named n (u ∷ []) = ends_named n u.what ∙ ap (λ ps. count_from n (len
 bounds_named n (l ∷ u ∷ ns) =
     ap (λ ks. ks ++ name_of (Some (end_of (after_node n l.what) u.what))) (ends_named n l.what)
     ∙ (ap (λ ks. count_from n (length (name_in l.what)) ++ ks)
-        (ends_named (after_node n l.what) u.what ∙ ap (λ m. count_from m (length (name_in u.what))) (after_names n l.what))
+    (ends_named (after_node n l.what) u.what ∙ ap (λ m. count_from m (length (name_in u.what))) (after_names n l.what))
     ∙ (sym (count-append n (length (name_in l.what)) (length (name_in u.what)))
     ∙ ap (λ k. count_from n k) (sym (length-append (name_in l.what) (name_in u.what))
-        ∙ ap (λ ps. length (name_in l.what ++ ps)) (sym (append-nil (name_in u.what))))))
+    ∙ ap (λ ps. length (name_in l.what ++ ps)) (sym (append-nil (name_in u.what))))))
 
 -- What is told of lists of references.
 
@@ -132,9 +127,9 @@ none_later e f n [] below = refl
 none_later e f n (d ∷ ds) below =
     ap (λ ts. own_of ts f) (told-append n (map (reference e) (mentions_of d)) (references_from (suc e) ds))
     ∙ (where-append (λ (t : Told). is_own t.role && nat_eq t.context f) (told_from n (map (reference e) (mentions_of d)))
-        (told_from (n + length (map (reference e) (mentions_of d))) (references_from (suc e) ds))
+    (told_from (n + length (map (reference e) (mentions_of d))) (references_from (suc e) ds))
     ∙ (ap (λ ts. ts ++ own_of (told_from (n + length (map (reference e) (mentions_of d))) (references_from (suc e) ds)) f)
-        (none_earlier e f n (mentions_of d) (λ same. omega (arith, below, same)))
+    (none_earlier e f n (mentions_of d) (λ same. omega (arith, below, same)))
     ∙ none_later (suc e) f (n + length (map (reference e) (mentions_of d))) ds (omega (arith, below))))
 
 every_mention : (r : Role) (b : Bool) (ps : List Path) → is_own r ≡ b → Every (λ m. is_own m.role ≡ b) (mentions r ps)
@@ -168,21 +163,21 @@ held_not_own : (ms : List DraftMember) (is : List DraftImport) (items : List Ite
 held_not_own ms is [] = tt
 held_not_own ms is (i ∷ items) = every_both (λ (h : Held). is_own h.role ≡ false) (held ms is i) (flat_map (held ms is) items) (one i)
     (held_not_own ms is items) where
-  by_target : (owner : ℕ) (t : DraftTarget) → Every (λ (h : Held). is_own h.role ≡ false) (held_target owner t)
-  by_target owner (Owned e) = tt
-  by_target owner (Alias k) = (refl, tt)
+      by_target : (owner : ℕ) (t : DraftTarget) → Every (λ (h : Held). is_own h.role ≡ false) (held_target owner t)
+      by_target owner (Owned e) = tt
+      by_target owner (Alias k) = (refl, tt)
 
-  by_member : (o : Option DraftMember) → Every (λ (h : Held). is_own h.role ≡ false) (held_member o)
-  by_member None = tt
-  by_member (Some m) = by_target m.owner m.target
+      by_member : (o : Option DraftMember) → Every (λ (h : Held). is_own h.role ≡ false) (held_member o)
+      by_member None = tt
+      by_member (Some m) = by_target m.owner m.target
 
-  by_import : (o : Option DraftImport) → Every (λ (h : Held). is_own h.role ≡ false) (held_import o)
-  by_import None = tt
-  by_import (Some x) = (refl, tt)
+      by_import : (o : Option DraftImport) → Every (λ (h : Held). is_own h.role ≡ false) (held_import o)
+      by_import None = tt
+      by_import (Some x) = (refl, tt)
 
-  one : (i : Item) → Every (λ (h : Held). is_own h.role ≡ false) (held ms is i)
-  one (item.Member m) = by_member (slice_get ms m)
-  one (item.Import x) = by_import (slice_get is x)
+      one : (i : Item) → Every (λ (h : Held). is_own h.role ≡ false) (held ms is i)
+      one (item.Member m) = by_member (slice_get ms m)
+      one (item.Import x) = by_import (slice_get is x)
 
 -- those of its own among all of the element
 own_here : (all rest : ℕ) (e n : ℕ) (d : Draft) → DraftFits all rest d → Every (λ m. is_own m.role ≡ false) d.inner
@@ -193,7 +188,7 @@ own_here all rest e n d fits inner =
     ap (map (reference e)) (append_assoc (own_mentions d) (bound_mentions d ++ value_mentions d) d.inner) ∙ map-append (reference e) (own_mentions d) later in
     let own : Every (λ m. is_own m.role ≡ true) (own_mentions d) =
     every_both (λ m. is_own m.role ≡ true) (mentions (own_role d.kind) d.own) d.specs (every_mention (own_role d.kind) true d.own (own_role_own d.kind))
-        (specs_own all rest d.specs fits.specs) in
+    (specs_own all rest d.specs fits.specs) in
     let others : Every (λ m. is_own m.role ≡ false) later =
     every_both (λ m. is_own m.role ≡ false) (bound_mentions d ++ value_mentions d) d.inner
     (every_both (λ m. is_own m.role ≡ false) (bound_mentions d) (value_mentions d) (every_mention role.Bound false (names (ends d.bounds)) refl)
@@ -204,7 +199,7 @@ own_here all rest e n d fits inner =
     ap (λ rs. own_of (told_from n rs) e) split
     ∙ (ap (λ ts. own_of ts e) (told-append n (map (reference e) (own_mentions d)) (map (reference e) later))
     ∙ (where-append (λ (t : Told). is_own t.role && nat_eq t.context e) (told_from n (map (reference e) (own_mentions d)))
-        (told_from k (map (reference e) later))
+    (told_from k (map (reference e) later))
     ∙ (ap (λ ts. ts ++ own_of (told_from k (map (reference e) later)) e) (all_own e n (own_mentions d) own)
     ∙ (ap (λ ts. told_from n (map (reference e) (own_mentions d)) ++ ts) (none_own e k later others)
     ∙ append-nil (told_from n (map (reference e) (own_mentions d)))))))
@@ -257,21 +252,21 @@ map-both f xs ys = map-append f xs ys
 element_told : (file : FileNo) (language : Language) (w : Walk) (e n : ℕ) (d : Draft) → Holds w.members w.imports e (stock d)
     → base_from 0 w.elements e ≡ n + length (head d)
     → told_from n (map (reference e) (own_mentions d)) ++ held_by (model_of file language w) e (element n d) d.items
-        ≡ told_from n (map (reference e) (mentions_of d))
+    ≡ told_from n (map (reference e) (mentions_of d))
 element_told file language w e n d holds base =
     let s = reference e in
     let bounds : map (told role.Bound e) (names_of_bounds (bounds_of (bound_start n d) d.bounds)) ≡ told_from (bound_start n d) (map s (bound_mentions d)) =
     ap (map (told role.Bound e)) (bounds_named (bound_start n d) d.bounds) ∙ sym (told-mentions e (bound_start n d) role.Bound (names (ends d.bounds))) in
     let in_value : (k : ℕ) (v : Option DraftExpr) → map (told role.Value e) (names_of (numbered_in k v))
-        ≡ told_from k (map s (mentions role.Value (names (nodes_of v)))) =
+    ≡ told_from k (map s (mentions role.Value (names (nodes_of v)))) =
     λ k v. named_value k v in
     let values : map (told role.Value e) (names_of (numbered_in (value_start n d) d.value) ++ names_of (numbered_in (result_start n d) d.result))
-        ≡ told_from (value_start n d) (map s (value_mentions d)) =
+    ≡ told_from (value_start n d) (map s (value_mentions d)) =
     map-both (told role.Value e) (names_of (numbered_in (value_start n d) d.value)) (names_of (numbered_in (result_start n d) d.result))
     ∙ (ap (λ ts. ts ++ map (told role.Value e) (names_of (numbered_in (result_start n d) d.result))) (in_value (value_start n d) d.value)
     ∙ (ap (λ ts. told_from (value_start n d) (map s (mentions role.Value (names (nodes_of d.value)))) ++ ts) (in_value (result_start n d) d.result
     ∙ ap (λ k. told_from k (map s (mentions role.Value (names (nodes_of d.result)))))
-        (omega (arith, length-map (mentions role.Value (names (nodes_of d.value))) s, length_mentions role.Value (names (nodes_of d.value)))))
+    (omega (arith, length-map (mentions role.Value (names (nodes_of d.value))) s, length_mentions role.Value (names (nodes_of d.value)))))
     ∙ sym (ap (told_from (value_start n d)) (map-append s (mentions role.Value (names (nodes_of d.value))) (mentions role.Value (names (nodes_of d.result))))
     ∙ told-append (value_start n d) (map s (mentions role.Value (names (nodes_of d.value)))) (map s (mentions role.Value (names (nodes_of d.result))))))) in
     let items : flat_map (told_by_item (model_of file language w) e) d.items ≡ told_from (n + length (head d)) (map s d.inner) =
@@ -281,11 +276,16 @@ element_told file language w e n d holds base =
     let later = map s (bound_mentions d) ++ (map s (value_mentions d) ++ map s d.inner) in
     let joined : held_by (model_of file language w) e (element n d) d.items ≡ told_from (bound_start n d) later =
     ap (λ ts. ts ++ (map (told role.Value e) (names_of (numbered_in (value_start n d) d.value) ++ names_of (numbered_in (result_start n d) d.result))
-        ++ flat_map (told_by_item (model_of file language w) e) d.items)) bounds
+    ++ flat_map (told_by_item (model_of file language w) e) d.items)) bounds
     ∙ (ap (λ ts. told_from (bound_start n d) (map s (bound_mentions d)) ++ (ts ++ flat_map (told_by_item (model_of file language w) e) d.items)) values
     ∙ (ap (λ ts. told_from (bound_start n d) (map s (bound_mentions d)) ++ (told_from (value_start n d) (map s (value_mentions d)) ++ ts)) (items
-    ∙ ap (λ k. told_from k (map s d.inner)) (omega (arith, length-map (value_mentions d) s, length-append (own_mentions d)
-        (bound_mentions d ++ value_mentions d), length-append (bound_mentions d) (value_mentions d))))
+    ∙ ap (λ k. told_from k (map s d.inner)) (omega (
+      arith,
+      length-map (value_mentions d) s,
+      length-append (own_mentions d)
+          (bound_mentions d ++ value_mentions d),
+      length-append (bound_mentions d) (value_mentions d),
+    )))
     ∙ (ap (λ ts. told_from (bound_start n d) (map s (bound_mentions d)) ++ ts) (sym (told-append (value_start n d) (map s (value_mentions d)) (map s d.inner))
     ∙ ap (λ k. told_from k (map s (value_mentions d) ++ map s d.inner)) (omega (arith, length-map (bound_mentions d) s)))
     ∙ sym (told-append (bound_start n d) (map s (bound_mentions d)) (map s (value_mentions d) ++ map s d.inner))))) in
@@ -313,7 +313,7 @@ from_here : (file : FileNo) (language : Language) (w : Walk) (all rest e n : ℕ
     → ((j : ℕ) → base_from 0 w.elements (e + j) ≡ base_from n ds j)
     → EachFrom (Holds w.members w.imports) e (map stock ds) → Every (DraftFits all rest) ds
     → by_element (model_of file language w) (told_from 0 (references_from 0 w.elements)) e (elements_from n ds) (map (λ d. d.items) ds)
-        ≡ told_from n (references_from e ds)
+    ≡ told_from n (references_from e ds)
 from_here file language w all rest e n [] own base holds fits = refl
 from_here file language w all rest e n (d ∷ ds) own base holds fits =
     let s = reference e in
@@ -336,10 +336,10 @@ from_here file language w all rest e n (d ∷ ds) own base holds fits =
     (λ j. ap (base_from 0 w.elements) (omega arith) ∙ base (suc j))
     holds.1 fits.1 in
     ap (λ ts. (ts ++ held_by (model_of file language w) e (element n d) d.items)
-        ++ by_element (model_of file language w) (told_from 0 (references_from 0 w.elements)) (suc e) (elements_from (n + width d) ds) (map (λ d. d.items) ds))
-        mine
+    ++ by_element (model_of file language w) (told_from 0 (references_from 0 w.elements)) (suc e) (elements_from (n + width d) ds) (map (λ d. d.items) ds))
+    mine
     ∙ (ap (λ ts. ts ++ by_element (model_of file language w) (told_from 0 (references_from 0 w.elements)) (suc e) (elements_from (n + width d) ds)
-        (map (λ d. d.items) ds)) (element_told file language w e n d holds.0 base_here)
+    (map (λ d. d.items) ds)) (element_told file language w e n d holds.0 base_here)
     ∙ (ap (λ ts. told_from n refs ++ ts) (rest_is ∙ ap (λ k. told_from (n + k) (references_from (suc e) ds)) (sym len))
     ∙ sym split))
 

@@ -1,6 +1,6 @@
 -- The name of each import stands among those of its element, at the place that the import keeps.
-use Rattle.std.proofs.Common.{◌≡◌, ℕ, zero, suc, ◌+◌, ◌-◌, ◌<◌, ◌≤◌, List, [], ◌∷◌, ◌++◌, length, refl, ap, sym, subst, ◌∙◌, arith, length-append, append_assoc}
-use Rattle.std.specs.Prelude.{map, slice_get, Option, Some, None}
+use Rattle.std.proofs.Common.{◌≡◌, ℕ, zero, suc, ◌+◌, ◌-◌, ◌<◌, ◌≤◌, List, [], ◌∷◌, ◌++◌, length, refl, ap, ◌∙◌, arith, length-append}
+use Rattle.std.specs.Prelude.{map, slice_get, Some}
 use Rattle.std.specs.Option.{option_map, option_map_or}
 use Rattle.std.proofs.lemmas.List.{length-map, map-append}
 use Rattle.std.proofs.lemmas.Option.{slice_get-map, slice_get_within}
@@ -28,13 +28,13 @@ use Rattle.text_model.specs.declared.draft.DraftImport.{DraftImport}
 use Rattle.text_model.specs.declared.draft.Reading.{Reading}
 use Rattle.text_model.specs.Tables.{Tables, action_at, meaning_of}
 use Rattle.text_model.specs.Drafts.{draft, names, first_name, path_or, mention, adjusted, inner_at}
-use Rattle.text_model.specs.Walk.{Walk, Frame, changed, with_item, with_inner, import_of as draft_import, saved, entered, given, left, named, meant, meant_name, meant_operator, taken, taken_from, walk}
+use Rattle.text_model.specs.Walk.{Walk, Frame, with_item, with_inner, import_of as draft_import, saved, entered, given, left, named, meant, meant_name, meant_operator, taken, taken_from, walk}
 use Rattle.text_model.specs.Numbering.{head, mentions_of, width, base_from, reference_places, import_of, model_of}
 use Rattle.text_laws.specs.Coherent.{stock, IsCoherent}
 use Rattle.text_laws.specs.Fits.{Every}
-use Rattle.text_laws.proofs.Lists.{get_front, get_last}
-use Rattle.text_laws.proofs.WalkFits.{every_on, every_append}
-use Rattle.text_laws.proofs.WalkCoherence.{alike_coherent, alike_from, entered_on, walk_on, left_on}
+use Rattle.text_laws.proofs.ListLemmas.{get_front, get_last}
+use Rattle.text_laws.proofs.FittingLaws.{every_on, every_append}
+use Rattle.text_laws.proofs.CoherenceLaws.{alike_coherent, alike_from, entered_on, walk_on, left_on}
 
 pub record IsLinked (ds : List Draft) (i : DraftImport) : Type 0 where
   pub mention : Mention
@@ -118,7 +118,7 @@ linked_entered : (a : Action) (w : Walk) → AreLinked w → AreLinked (entered 
 linked_entered (action.Element k) w h =
     let es = adjusted w.current (with_item (item.Member (length w.members))) w.elements in
     linked_on es (es ++ draft k (Some w.current) ∷ []) w.imports (grown_push es (draft k (Some w.current) ∷ []))
-        (linked_changed (with_item (item.Member (length w.members))) w (λ d. refl) h)
+    (linked_changed (with_item (item.Member (length w.members))) w (λ d. refl) h)
 linked_entered (action.Take d) w h = h
 linked_entered action.NamedEnd w h = h
 linked_entered action.Level w h = h
@@ -133,7 +133,7 @@ linked_given taking.Import f r w open_ h =
     let p = path_or f.place (names r.nodes) in
     let es = adjusted w.current (with_inner i role.Import p) w.elements in
     every_append (IsLinked es) w.imports (draft_import f r w ∷ []) (linked_on w.elements es w.imports (grown_inner w.current i role.Import p w.elements) h)
-      (record { mention = mention role.Import p; found = inner_last w.current i role.Import p w.elements open_; place = refl }, tt)
+    (record { mention = mention role.Import p; found = inner_last w.current i role.Import p w.elements open_; place = refl }, tt)
 linked_given other f r w open_ h = linked_changed _ w (λ d. refl) h
 
 linked_left : (a : Action) (f : Frame) (w : Walk) → w.current < length w.elements → AreLinked w → AreLinked (left a f w)
@@ -153,8 +153,8 @@ walk_linked t text a (Branch p below rest) w c h =
     let here : w.current < length v.elements = omega (arith, c.current, length-map w.elements stock, ce.longer, cv.longer) in
     let cu = left_on b (saved b w) v here cv.coherent in
     walk_linked t text a rest (left b (saved b w) v) cu.coherent
-      (linked_left b (saved b w) v (omega (arith, cv.coherent.current, length-map v.elements stock))
-          (walk_linked t text b below (entered b w) ce.coherent (linked_entered b w h)))
+    (linked_left b (saved b w) v (omega (arith, cv.coherent.current, length-map v.elements stock))
+    (walk_linked t text b below (entered b w) ce.coherent (linked_entered b w h)))
 
 -- The reference's place.
 
@@ -178,7 +178,7 @@ place_found n zero k j (d ∷ ds) m at is =
     let below = slice_get_within d.inner k m at in
     ap (λ x. slice_get (x ++ reference_places ds) j) (map-append place (head d) d.inner)
     ∙ (get_front (map place (head d) ++ map place d.inner) (reference_places ds) j
-        (omega (arith, j_is, below, length-append (map place (head d)) (map place d.inner), length-map d.inner place))
+    (omega (arith, j_is, below, length-append (map place (head d)) (map place d.inner), length-map d.inner place))
     ∙ (ap (slice_get (map place (head d) ++ map place d.inner)) j_is
     ∙ (get_back (map place (head d)) (map place d.inner) k ∙ (slice_get-map place d.inner k ∙ ap (option_map place) at))))
 place_found n (suc e) k j (d ∷ ds) m at is =
@@ -193,5 +193,5 @@ pub import_stands_there : (file : FileNo) (language : Language) (w : Walk) (i : 
     → import_place (model_of file language w) (import_of w.elements i) ≡ i.place ∷ []
 import_stands_there file language w i l =
     ap (λ o. option_map_or (λ place. place ∷ []) o []) (place_found 0 i.owner i.at (base_from 0 w.elements i.owner + i.at) w.elements l.mention l.found
-        (omega arith))
+    (omega arith))
     ∙ ap (λ p. p ∷ []) l.place

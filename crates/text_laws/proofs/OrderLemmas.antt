@@ -1,24 +1,20 @@
 -- The places of members, of imports and of each element's items rise.
-use Rattle.std.proofs.Common.{◌≡◌, ℕ, zero, suc, ◌+◌, ◌<◌, ◌≤◌, Bool, true, false, ◌&&◌, cond, List, [], ◌∷◌, ◌++◌, length, refl, ap, sym, subst, ◌∙◌, arith, length-append, append-nil, append_assoc}
-use Rattle.std.specs.Prelude.{map, slice_get, nat_lt, not, ◌||◌, Option, Some, None}
+use Rattle.std.proofs.Common.{◌≡◌, ℕ, zero, suc, ◌<◌, ◌≤◌, Bool, true, false, ◌&&◌, List, [], ◌∷◌, ◌++◌, length, refl, ap, sym, subst, ◌∙◌, arith, append-nil}
+use Rattle.std.specs.Prelude.{map, slice_get, nat_lt, Option, Some, None}
 use Rattle.std.specs.List.{flat_map}
 use Rattle.std.proofs.lemmas.Grind.{flat_map-append}
-use Rattle.std.proofs.lemmas.List.{map-append, length-map}
+use Rattle.std.proofs.lemmas.List.{map-append}
 use Rattle.std.proofs.lemmas.Bool.Decides.{Decides-ltb}
 use Rattle.element_store.specs.declared.lists.Item.{Item}
 use Rattle.element_store.specs.declared.lists.Item.TheVariants as item
 use Rattle.element_store.specs.Numbers.{rises}
-use Rattle.ll_core.specs.declared.grammar.Symbol.{Symbol}
-use Rattle.ll_core.specs.declared.grammar.Symbol.TheVariants.{Terminal, Inner}
-use Rattle.ll_core.specs.Table.{Rule, Table}
-use Rattle.ll_core.specs.Derives.{Forest, Nothing, Token as Leaf, Node as Branch, IsDerivation, tokens}
 use Rattle.text_model.specs.declared.draft.DraftMember.{DraftMember}
 use Rattle.text_model.specs.declared.draft.DraftImport.{DraftImport}
 use Rattle.text_model.specs.Drafts.{adjusted}
-use Rattle.text_laws.specs.Coherent.{Stock, Holds, EachFrom, IsWithin, AreWithin}
+use Rattle.text_laws.specs.Coherent.{Stock, Holds, EachFrom, AreWithin}
 use Rattle.text_laws.specs.Fits.{Every}
-use Rattle.text_laws.proofs.Lists.{get_front, get_last}
-use Rattle.text_laws.proofs.WalkFits.{every_on, every_append}
+use Rattle.text_laws.proofs.ListLemmas.{get_front, get_last}
+use Rattle.text_laws.proofs.FittingLaws.{every_on, every_append}
 
 -- rising places below a bound
 pub record Sorted (k : ℕ) (xs : List ℕ) : Type 0 where
@@ -67,10 +63,10 @@ stands_more : (ms ms' : List DraftMember) (is is' : List DraftImport) (items : L
 stands_more ms ms' is is' [] within = refl
 stands_more ms ms' is is' (item.Member m ∷ items) within =
     ap (λ o. member_stands o ++ flat_map (stands (ms ++ ms') (is ++ is')) items) (get_front ms ms' m within.0)
-        ∙ ap (λ hs. member_stands (slice_get ms m) ++ hs) (stands_more ms ms' is is' items within.1)
+    ∙ ap (λ hs. member_stands (slice_get ms m) ++ hs) (stands_more ms ms' is is' items within.1)
 stands_more ms ms' is is' (item.Import i ∷ items) within =
     ap (λ o. import_stands o ++ flat_map (stands (ms ++ ms') (is ++ is')) items) (get_front is is' i within.0)
-        ∙ ap (λ hs. import_stands (slice_get is i) ++ hs) (stands_more ms ms' is is' items within.1)
+    ∙ ap (λ hs. import_stands (slice_get is i) ++ hs) (stands_more ms ms' is is' items within.1)
 
 pub record InOrder (k : ℕ) (ss : List Stock) (ms : List DraftMember) (is : List DraftImport) : Type 0 where
   pub members : Sorted k (map (λ m. m.place) ms)
@@ -94,25 +90,26 @@ with_more n c f i [] k p ms ms' is is' le one at each o = tt
 with_more n zero f i (s ∷ ss) k p ms ms' is is' le one at each o =
     let old = stands_more ms ms' is is' s.items each.0.within in
     let new : flat_map (stands (ms ++ ms') (is ++ is')) (f s).items ≡ flat_map (stands ms is) s.items ++ p ∷ [] =
-        ap (flat_map (stands (ms ++ ms') (is ++ is'))) (one s) ∙ (flat_map-append (stands (ms ++ ms') (is ++ is')) s.items (i ∷ [])
-        ∙ (ap (λ x. x ++ (stands (ms ++ ms') (is ++ is') i ++ [])) old ∙ ap (λ x. flat_map (stands ms is) s.items ++ (x ++ [])) at)) in
+    ap (flat_map (stands (ms ++ ms') (is ++ is'))) (one s) ∙ (flat_map-append (stands (ms ++ ms') (is ++ is')) s.items (i ∷ [])
+    ∙ (ap (λ x. x ++ (stands (ms ++ ms') (is ++ is') i ++ [])) old ∙ ap (λ x. flat_map (stands ms is) s.items ++ (x ++ [])) at)) in
     (subst (Sorted (suc p)) (sym new) (sorted_push k p (flat_map (stands ms is) s.items) le o.0), others (suc n) ss each.1 o.1) where
       others : (n : ℕ) (ss : List Stock) → EachFrom (Holds ms is) n ss → Every (λ s. Sorted k (flat_map (stands ms is) s.items)) ss
           → Every (λ s. Sorted (suc p) (flat_map (stands (ms ++ ms') (is ++ is')) s.items)) ss
       others n [] each o = tt
-      others n (s ∷ ss) each o =
-          (subst (Sorted (suc p)) (sym (stands_more ms ms' is is' s.items each.0.within))
-              (sorted_more k (suc p) (flat_map (stands ms is) s.items) (omega (arith, le)) o.0), others (suc n) ss each.1 o.1)
-with_more n (suc c) f i (s ∷ ss) k p ms ms' is is' le one at each o =
-    (
-      subst (Sorted (suc p)) (sym (stands_more ms ms' is is' s.items each.0.within))
-          (sorted_more k (suc p) (flat_map (stands ms is) s.items) (omega (arith, le)) o.0),
-      with_more (suc n) c f i ss k p ms ms' is is' le one at each.1 o.1,
-    )
+      others n (s ∷ ss) each o = (
+        subst (Sorted (suc p)) (sym (stands_more ms ms' is is' s.items each.0.within))
+            (sorted_more k (suc p) (flat_map (stands ms is) s.items) (omega (arith, le)) o.0),
+        others (suc n) ss each.1 o.1,
+      )
+with_more n (suc c) f i (s ∷ ss) k p ms ms' is is' le one at each o = (
+  subst (Sorted (suc p)) (sym (stands_more ms ms' is is' s.items each.0.within))
+      (sorted_more k (suc p) (flat_map (stands ms is) s.items) (omega (arith, le)) o.0),
+  with_more (suc n) c f i ss k p ms ms' is is' le one at each.1 o.1,
+)
 
 pub member_order : (c : ℕ) (f : Stock → Stock) (ss : List Stock) (ms : List DraftMember) (is : List DraftImport) (m : DraftMember) (k : ℕ) → k ≤ m.place
     → ((s : Stock) → (f s).items ≡ s.items ++ item.Member (length ms) ∷ []) → EachFrom (Holds ms is) 0 ss → InOrder k ss ms is
-        → InOrder (suc m.place) (adjusted c f ss) (ms ++ m ∷ []) is
+    → InOrder (suc m.place) (adjusted c f ss) (ms ++ m ∷ []) is
 member_order c f ss ms is m k le one each o =
     let at : stands (ms ++ m ∷ []) (is ++ []) (item.Member (length ms)) ≡ m.place ∷ [] = ap member_stands (get_last ms m) in
     record {
@@ -125,7 +122,7 @@ member_order c f ss ms is m k le one each o =
 
 pub import_order : (c : ℕ) (f : Stock → Stock) (ss : List Stock) (ms : List DraftMember) (is : List DraftImport) (i : DraftImport) (k : ℕ) → k ≤ i.place
     → ((s : Stock) → (f s).items ≡ s.items ++ item.Import (length is) ∷ []) → EachFrom (Holds ms is) 0 ss → InOrder k ss ms is
-        → InOrder (suc i.place) (adjusted c f ss) ms (is ++ i ∷ [])
+    → InOrder (suc i.place) (adjusted c f ss) ms (is ++ i ∷ [])
 import_order c f ss ms is i k le one each o =
     let at : stands (ms ++ []) (is ++ i ∷ []) (item.Import (length is)) ≡ i.place ∷ [] = ap import_stands (get_last is i) in
     record {

@@ -1,16 +1,15 @@
 -- The numbering of a walk whose places rise is in text order.
-use Rattle.std.proofs.Common.{◌≡◌, ℕ, zero, suc, ◌+◌, ◌<◌, ◌≤◌, Bool, true, ◌&&◌, List, [], ◌∷◌, ◌++◌, length, refl, ap, sym, subst, ◌∙◌}
+use Rattle.std.proofs.Common.{◌≡◌, ℕ, zero, suc, true, List, [], ◌∷◌, ◌++◌, refl, ap, subst, ◌∙◌}
 use Rattle.std.specs.Prelude.{map, slice_get, Option, Some, None}
 use Rattle.std.specs.List.{flat_map, list_all}
 use Rattle.std.specs.Option.{option_map, option_map_or}
 use Rattle.std.proofs.lemmas.Option.{slice_get-map}
-use Rattle.linker_base.proofs.Cases.{option_cases}
 use Rattle.element_store.specs.declared.numbers.FileNo.{FileNo}
 use Rattle.element_store.specs.declared.outcome.Language.{Language}
 use Rattle.element_store.specs.declared.lists.Item.{Item}
 use Rattle.element_store.specs.declared.lists.Item.TheVariants as item
 use Rattle.element_store.specs.Numbers.{rises}
-use Rattle.element_store.specs.Condition.{import_place, item_place, place_at}
+use Rattle.element_store.specs.Condition.{import_place, item_place}
 use Rattle.text_model.specs.declared.draft.Draft.{Draft}
 use Rattle.text_model.specs.declared.draft.DraftMember.{DraftMember}
 use Rattle.text_model.specs.declared.draft.DraftImport.{DraftImport}
@@ -18,8 +17,8 @@ use Rattle.text_model.specs.Walk.{Walk}
 use Rattle.text_model.specs.Numbering.{import_of, model_of}
 use Rattle.text_laws.specs.Coherent.{stock}
 use Rattle.text_laws.specs.Fits.{Every}
-use Rattle.text_laws.proofs.Order.{Sorted, InOrder, stands, member_stands, import_stands}
-use Rattle.text_laws.proofs.Links.{IsLinked, AreLinked, import_stands_there}
+use Rattle.text_laws.proofs.OrderLemmas.{Sorted, InOrder, stands, member_stands, import_stands}
+use Rattle.text_laws.proofs.ImportLaws.{IsLinked, AreLinked, import_stands_there}
 
 every_at : {A : Type 0} (P : A → Type 0) (xs : List A) (k : ℕ) (x : A) → Every P xs → slice_get xs k ≡ Some x → P x
 every_at P [] k x e at = cc
@@ -42,18 +41,18 @@ item_placed file language w h (item.Member m) =
       go (Some x) = refl
 item_placed file language w h (item.Import i) =
     ap (λ o. option_map_or (import_place (model_of file language w)) o []) (slice_get-map (import_of w.elements) w.imports i) ∙ go (slice_get w.imports i) refl
-        where
-      go : (o : Option DraftImport) → slice_get w.imports i ≡ o
-          → option_map_or (import_place (model_of file language w)) (option_map (import_of w.elements) o) [] ≡ import_stands o
-      go None at = refl
-      go (Some x) at = import_stands_there file language w x (every_at (IsLinked w.elements) w.imports i x h at)
+  where
+    go : (o : Option DraftImport) → slice_get w.imports i ≡ o
+        → option_map_or (import_place (model_of file language w)) (option_map (import_of w.elements) o) [] ≡ import_stands o
+    go None at = refl
+    go (Some x) at = import_stands_there file language w x (every_at (IsLinked w.elements) w.imports i x h at)
 
 items_placed : (file : FileNo) (language : Language) (w : Walk) → AreLinked w → (items : List Item)
     → flat_map (item_place (model_of file language w)) items ≡ flat_map (stands w.members w.imports) items
 items_placed file language w h [] = refl
 items_placed file language w h (i ∷ items) =
     ap (λ ps. ps ++ flat_map (item_place (model_of file language w)) items) (item_placed file language w h i)
-        ∙ ap (λ ps. stands w.members w.imports i ++ ps) (items_placed file language w h items)
+    ∙ ap (λ ps. stands w.members w.imports i ++ ps) (items_placed file language w h items)
 
 all_placed : (file : FileNo) (language : Language) (w : Walk) (k : ℕ) → AreLinked w → (ds : List Draft)
     → Every (λ s. Sorted k (flat_map (stands w.members w.imports) s.items)) (map stock ds)

@@ -1,6 +1,6 @@
 -- The tokens of a text: their numbers fit, and there are no more of them than bytes.
-use Rattle.std.proofs.Common.{◌≡◌, ◌⊎◌, inl, inr, ℕ, zero, suc, ◌+◌, ◌<◌, ◌≤◌, Bool, true, false, cond, List, [], ◌∷◌, ◌++◌, length, refl, ap, sym, subst, ◌∙◌, arith, length-append}
-use Rattle.std.specs.Prelude.{Option, Some, None, Result, Ok}
+use Rattle.std.proofs.Common.{◌≡◌, inl, inr, ℕ, ◌+◌, ◌<◌, ◌≤◌, cond, List, [], ◌∷◌, length, refl, ap, ◌∙◌, arith, length-append}
+use Rattle.std.specs.Prelude.{Some, None}
 use Rattle.std.specs.Str.{bytes_eq}
 use Rattle.std.proofs.lemmas.Bool.{ne_eqb}
 use Rattle.std.proofs.lemmas.List.{map-append}
@@ -12,7 +12,7 @@ use Rattle.token_core.specs.declared.token.TokenKind.{TokenKind}
 use Rattle.token_core.specs.declared.token.TokenKind.TheVariants as kind
 use Rattle.token_core.specs.declared.token.PieceKind.{PieceKind}
 use Rattle.token_core.specs.declared.token.PieceKind.TheVariants.{Space, LineNote, BlockNote, Token as Kept}
-use Rattle.token_core.specs.Pieces.{IsPiece, IsBasicName, IsQuoted, IsSomeRun}
+use Rattle.token_core.specs.Pieces.{IsPiece}
 use Rattle.token_core.specs.Lex.{Piece, Cut, token_at, tokens_from}
 use Rattle.token_core.specs.Words.{signs, words, place_in}
 use Rattle.token_core.specs.Terminals.{terminal, HasNumber}
@@ -20,7 +20,7 @@ use Rattle.text_model.specs.Profile.{kinds_of}
 use Rattle.text_model.specs.Slacks.{weight, weights}
 use Rattle.text_laws.proofs.FewItems.{weights-append}
 use Rattle.text_laws.specs.Fits.{Every}
-use Rattle.text_laws.proofs.WalkFits.{every_append}
+use Rattle.text_laws.proofs.FittingLaws.{every_append}
 
 place_below : (list : List (List ℕ)) (bytes : List ℕ) (n : ℕ) → place_in list bytes ≡ Some n → n < length list
 place_below list bytes n is = (position-Some (λ word. bytes_eq word bytes) list n [] is).0
@@ -60,11 +60,17 @@ tokens_fit language at [] text rest cut = (tt, omega arith)
 tokens_fit language at (p ∷ ps) text rest cut =
     let more = cut.0 in
     let one = piece p.kind p.bytes at cut.2.piece in
-    let others = tokens_fit language (at + length p.bytes) ps more rest cut.3 in
-    (
+    let others = tokens_fit language (at + length p.bytes) ps more rest cut.3 in (
       every_append (λ (t : Token). HasNumber t.kind) (token_at p.kind at (length p.bytes)) (tokens_from (at + length p.bytes) ps) one.0 others.0,
-      omega (arith, one.1, others.1, ap length cut.1, length-append p.bytes more, length-append (token_at p.kind at (length p.bytes))
-          (tokens_from (at + length p.bytes) ps)),
+      omega (
+        arith,
+        one.1,
+        others.1,
+        ap length cut.1,
+        length-append p.bytes more,
+        length-append (token_at p.kind at (length p.bytes))
+            (tokens_from (at + length p.bytes) ps),
+      ),
     ) where
       piece : (k : PieceKind) (bytes : List ℕ) (at : ℕ) → IsPiece language k bytes cut.0 → Every (λ t. HasNumber t.kind) (token_at k at (length bytes))
           × (length (token_at k at (length bytes)) ≤ length bytes)
@@ -99,9 +105,9 @@ tokens_weigh language at (p ∷ ps) text rest cut =
     let one = piece p.kind p.bytes at cut.2.piece in
     let others = tokens_weigh language (at + length p.bytes) ps more rest cut.3 in
     let split : weights (kinds_of (tokens_from at (p ∷ ps)))
-        ≡ weights (kinds_of (token_at p.kind at (length p.bytes))) + weights (kinds_of (tokens_from (at + length p.bytes) ps)) =
-        ap weights (map-append (λ (t : Token). terminal t.kind) (token_at p.kind at (length p.bytes)) (tokens_from (at + length p.bytes) ps))
-            ∙ weights-append (kinds_of (token_at p.kind at (length p.bytes))) (kinds_of (tokens_from (at + length p.bytes) ps)) in
+    ≡ weights (kinds_of (token_at p.kind at (length p.bytes))) + weights (kinds_of (tokens_from (at + length p.bytes) ps)) =
+    ap weights (map-append (λ (t : Token). terminal t.kind) (token_at p.kind at (length p.bytes)) (tokens_from (at + length p.bytes) ps))
+    ∙ weights-append (kinds_of (token_at p.kind at (length p.bytes))) (kinds_of (tokens_from (at + length p.bytes) ps)) in
     omega (arith, split, one, others, ap length cut.1, length-append p.bytes more) where
       piece : (k : PieceKind) (bytes : List ℕ) (at : ℕ) → IsPiece language k bytes cut.0 → weights (kinds_of (token_at k at (length bytes))) ≤ length bytes
       piece Space bytes at p = omega arith

@@ -1,6 +1,6 @@
 -- The elements of every walk stand in preorder.
-use Rattle.std.proofs.Common.{◌≡◌, ℕ, zero, suc, ◌+◌, List, [], ◌∷◌, ◌++◌, length, refl, ap, sym, subst, ◌∙◌, arith, length-append, append_assoc, append-nil}
-use Rattle.std.specs.Prelude.{map, Option, Some, None}
+use Rattle.std.proofs.Common.{◌≡◌, ℕ, suc, ◌+◌, List, [], ◌∷◌, ◌++◌, length, refl, ap, sym, ◌∙◌, arith, length-append, append_assoc, append-nil}
+use Rattle.std.specs.Prelude.{map, Option, Some}
 use Rattle.std.proofs.lemmas.List.{map-append, length-map}
 use Rattle.element_store.specs.Condition.{Trees, Nothing as NoTrees, Tree, size, owners_in}
 use Rattle.element_store.proofs.ModelLaws.{owners_long}
@@ -8,7 +8,7 @@ use Rattle.element_store.specs.declared.lists.Item.TheVariants as item
 use Rattle.element_store.specs.declared.outcome.Role.TheVariants as role
 use Rattle.ll_core.specs.Derives.{Forest, Nothing, Token as Leaf, Node}
 use Rattle.text_model.specs.declared.action.Action.{Action}
-use Rattle.text_model.specs.declared.action.Action.TheVariants.{Element, Take, Level, NamedEnd, Tail}
+use Rattle.text_model.specs.declared.action.Action.TheVariants.{Element, Take}
 use Rattle.text_model.specs.declared.action.Taking.{Taking}
 use Rattle.text_model.specs.declared.action.Taking.TheVariants as taking
 use Rattle.text_model.specs.declared.draft.Draft.{Draft}
@@ -17,8 +17,8 @@ use Rattle.text_model.specs.Tables.{Tables, action_at}
 use Rattle.text_model.specs.Drafts.{draft, adjusted, names, first_name, path_or}
 use Rattle.text_model.specs.Walk.{Walk, Frame, saved, changed, with_item, with_inner, entered, given, left, named, taken, walk}
 use Rattle.text_laws.specs.Coherent.{Stock, stock}
-use Rattle.text_laws.proofs.Lists.{length-adjusted, map-adjusted_same}
-use Rattle.text_laws.proofs.WalkCoherence.{IsAlike, alike_from}
+use Rattle.text_laws.proofs.ListLemmas.{length-adjusted, map-adjusted_same}
+use Rattle.text_laws.proofs.CoherenceLaws.{IsAlike, alike_from}
 
 abbrev pub owners : List Draft → List (Option ℕ)
 owners ds = map (λ d. d.owner) ds
@@ -35,7 +35,7 @@ owners-joined parent n (Tree below beside) u =
     ap (λ os. Some parent ∷ (owners_in n (suc n) below ++ os)) (owners-joined parent (suc n + size below) beside u
     ∙ ap (λ k. owners_in parent (suc n + size below) beside ++ owners_in parent k u) (omega arith))
     ∙ ap (λ os. Some parent ∷ os) (sym (append_assoc (owners_in n (suc n) below) (owners_in parent (suc n + size below) beside)
-        (owners_in parent (n + suc (size below + size beside)) u)))
+    (owners_in parent (n + suc (size below + size beside)) u)))
 
 -- a walk adds trees below the element that is open, and leaves it open
 pub record Grows (w v : Walk) : Type 0 where
@@ -126,4 +126,4 @@ walk_grows t text a (Node p below rest) w =
     let b = action_at t p in
     let v = walk t text b below (entered b w) in
     grows_through w (left b (saved b w) v) (walk t text a rest (left b (saved b w) v)) (node_grows b w v (walk_grows t text b below (entered b w)))
-        (walk_grows t text a rest (left b (saved b w) v))
+    (walk_grows t text a rest (left b (saved b w) v))

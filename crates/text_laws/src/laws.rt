@@ -1,0 +1,43 @@
+//! Laws of the models of texts. Each is a function with nothing to run: what it ensures holds of the
+//! definitions alone.
+ghost use Rattle.std.specs.Prelude.{ℕ, ◌<◌, ◌^◌, List, length};
+ghost use Rattle.element_store.specs.declared.numbers.FileNo.{FileNo};
+ghost use Rattle.element_store.specs.declared.outcome.Language.{Language};
+ghost use Rattle.element_store.specs.Model.{Data};
+ghost use Rattle.element_store.specs.Condition.{IsModel};
+ghost use Rattle.text_model.specs.Profile.{InProfile};
+ghost use Rattle.text_laws.specs.OwnPlaces.{ReferencesStandAtOwn};
+ghost use Rattle.text_laws.specs.Events.{EventsMakeTheWalk};
+ghost use Rattle.text_laws.specs.Outcomes.{OneModel, ModelOrFault, OneFault};
+ghost use Rattle.text_laws.specs.Written.{ElementsAreWritten};
+
+/// A law: the model of a text within the profile is a model, in a file of fewer than 4,294,967,296
+/// bytes.
+pub fn built_models_are_models()
+    ensures { (file : FileNo) (language : Language) (text : List ℕ) (d : Data)
+        → length text < 2 ^ 32 → InProfile file language text d → IsModel d }
+{}
+
+/// A law: a text with a language has one outcome. Two models of it are the same, no text has a model
+/// and a fault, and two faults are the same, want of memory aside.
+pub fn one_outcome()
+    ensures model { OneModel }
+    ensures either { ModelOrFault }
+    ensures fault { OneFault }
+{}
+
+/// A law: the elements of a model are those that its text writes, in preorder. The owner of each is the
+/// innermost element around it, and its marks, its kind and its body are what its own tokens say.
+pub fn elements_are_written()
+    ensures { ElementsAreWritten }
+{}
+
+/// A law: each reference but an alias's or an import's stands at one of the own tokens of its element.
+pub fn references_stand_at_own_tokens()
+    ensures { ReferencesStandAtOwn }
+{}
+
+/// A law: the walk over a tree is a fold over the tree's events, as a parser tells them.
+pub fn events_make_the_walk()
+    ensures { EventsMakeTheWalk }
+{}
