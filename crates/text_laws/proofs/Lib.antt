@@ -26,4 +26,5 @@ pub mod BuiltModel
 pub mod OutcomeLaws
 pub mod WrittenWalk
 pub mod WrittenLaws
+pub mod WrittenItemLaws
 pub mod OwnPlaceLaws

@@ -4,4 +4,5 @@ pub mod Sound
 pub mod Events
 pub mod Outcomes
 pub mod Written
+pub mod WrittenItems
 pub mod OwnPlaces

@@ -10,6 +10,7 @@ ghost use Rattle.text_laws.specs.OwnPlaces.{ReferencesStandAtOwn};
 ghost use Rattle.text_laws.specs.Events.{EventsMakeTheWalk};
 ghost use Rattle.text_laws.specs.Outcomes.{OneModel, ModelOrFault, OneFault};
 ghost use Rattle.text_laws.specs.Written.{ElementsAreWritten};
+ghost use Rattle.text_laws.specs.WrittenItems.{ItemsAreWritten};
 
 /// A law: the model of a text within the profile is a model, in a file of fewer than 4,294,967,296
 /// bytes.
@@ -30,6 +31,12 @@ pub fn one_outcome()
 /// innermost element around it, and its marks, its kind and its body are what its own tokens say.
 pub fn elements_are_written()
     ensures { ElementsAreWritten }
+{}
+
+/// A law: the members and the imports of a model are those that its text writes, in text order. The
+/// owner of each is the innermost element around it.
+pub fn items_are_written()
+    ensures { ItemsAreWritten }
 {}
 
 /// A law: each reference but an alias's or an import's stands at one of the own tokens of its element.

@@ -4,6 +4,6 @@
 mod laws;
 
 pub use laws::{
-    built_models_are_models, elements_are_written, events_make_the_walk, one_outcome,
-    references_stand_at_own_tokens,
+    built_models_are_models, elements_are_written, events_make_the_walk, items_are_written,
+    one_outcome, references_stand_at_own_tokens,
 };
