@@ -37,6 +37,7 @@ use Rattle.text_model.specs.Numbering.{nodes_of, ends, own_mentions, bound_menti
 
 -- Numbers that follow one another.
 
+-- so many numbers from one on
 unfoldable pub count_from : ℕ → ℕ → List ℕ
 count_from n zero = []
 count_from n (suc k) = n ∷ count_from (suc n) k
@@ -51,6 +52,7 @@ count-append n (suc j) k =
     let e : suc j + k ≡ suc (j + k) = omega arith in
     ap (λ m. count_from n m) e ∙ ap (λ ns. n ∷ ns) (count-append (suc n) j k ∙ ap (λ m. count_from (suc n) j ++ count_from m k) (omega arith))
 
+-- the names among numbered nodes have running numbers
 pub names_in-numbered : (n : ℕ) (ns : List DraftNode) → names_in (numbered n ns) ≡ count_from n (length (names ns))
 unfolding count_from
 names_in-numbered n [] = refl
@@ -69,6 +71,7 @@ after_names : (n : ℕ) (w : What) → after_node n w ≡ n + length (name_in w)
 after_names n (what.Named p) = omega arith
 after_names n other = omega arith
 
+-- and so have those of bounds
 pub bounds_named : (n : ℕ) (ns : List DraftNode) → names_of_bounds (bounds_of n ns) ≡ count_from n (length (names (ends ns)))
 unfolding count_from
 bounds_named n [] = refl
@@ -343,6 +346,7 @@ from_here file language w all rest e n (d ∷ ds) own base holds fits =
     ∙ (ap (λ ts. told_from n refs ++ ts) (rest_is ∙ ap (λ k. told_from (n + k) (references_from (suc e) ds)) (sym len))
     ∙ sym split))
 
+-- the references stand element by element
 pub by_element_is : (file : FileNo) (language : Language) (w : Walk) (all rest : ℕ) → EachFrom (Holds w.members w.imports) 0 (map stock w.elements)
     → Every (DraftFits all rest) w.elements
     → IsByElement (model_of file language w)

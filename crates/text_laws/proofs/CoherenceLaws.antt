@@ -27,12 +27,14 @@ use Rattle.text_laws.proofs.CoherenceSteps.{with_owned, with_held, bare, element
 
 -- Steps that touch neither owning nor holding.
 
+-- owners, items, names of items, members and imports are the same
 pub record IsAlike (w v : Walk) : Type 0 where
   pub stocks : map stock v.elements ≡ map stock w.elements
   pub members : v.members ≡ w.members
   pub imports : v.imports ≡ w.imports
   pub current : v.current ≡ w.current
 
+-- such a step keeps a walk coherent
 pub alike_coherent : (w v : Walk) → IsAlike w v → IsCoherent w → IsCoherent v
 alike_coherent w v a h = subst (λ ss. AreCoherent ss v.members v.imports v.current) (sym a.stocks)
     (subst (λ ms. AreCoherent (map stock w.elements) ms v.imports v.current) (sym a.members)
@@ -69,6 +71,7 @@ alike_meant text a meaning.Name t w = alike_name a t (name_meaning (bytes_of tex
 alike_meant text a meaning.Absolute t w = record { stocks = refl; members = refl; imports = refl; current = refl }
 alike_meant text a (meaning.Operator o) t w = alike_operator a o t.from w
 
+-- a token changes none of these
 pub alike_from : (tables : Tables) (text : List ℕ) (a : Action) (ts : List Token) (w : Walk) → IsAlike w (taken_from tables text a ts w)
 alike_from tables text a [] w = record { stocks = refl; members = refl; imports = refl; current = refl }
 alike_from tables text a (t ∷ ts) w =
@@ -87,6 +90,7 @@ goes_alike w v a h = record {
   longer = omega (arith, ap length a.stocks, length-map w.elements stock, length-map v.elements stock);
 }
 
+-- the beginning of a production
 pub entered_on : (a : Action) (w : Walk) → IsCoherent w → GoesOn w (entered a w)
 entered_on (Element k) w h =
     let es = adjusted w.current (with_item (item.Member (length w.members))) w.elements in
@@ -126,6 +130,7 @@ specialised_on : (which : Role) (r : Reading) (w : Walk) → IsCoherent w → Go
 specialised_on which r w h = goes_alike w (specialised which r w)
     (alike_changed (λ d. record d { specs = d.specs ++ mentions which (names r.nodes) }) w (λ d. refl)) h
 
+-- one more name of an alias or import, as the stock sees it
 pub role_push : (d : Draft) (i : _) (which : Role) (p : _) → stock (with_inner i which p d) ≡ with_held i which (stock d)
 role_push d i which p = ap (λ rs. record { owner = d.owner; items = d.items ++ i ∷ []; inner = rs }) (map-append (λ m. m.role) d.inner (mention which p ∷ []))
 
@@ -157,6 +162,7 @@ given_on taking.Import f r w h =
       longer = omega (arith, length-adjusted w.current (with_inner i role.Import p) w.elements);
     }
 
+-- the end of a production
 pub left_on : (a : Action) (f : Frame) (w : Walk) → f.current < length w.elements → IsCoherent w → GoesOn w (left a f w)
 left_on (Element k) f w open_ h =
     let a = alike_changed (named w.reading) w (λ d. refl) in
@@ -173,6 +179,7 @@ left_on (Take d) f w open_ h =
 left_on Level f w open_ h = record { coherent = h; longer = omega arith }
 left_on other f w open_ h = record { coherent = h; longer = omega arith }
 
+-- a walk keeps coherence, and its elements
 pub walk_on : (t : Tables) (text : List ℕ) (a : Action) (f : Forest) (w : Walk) → IsCoherent w → GoesOn w (walk t text a f w)
 walk_on t text a Nothing w h = record { coherent = h; longer = omega arith }
 walk_on t text a (Leaf k rest) w h =

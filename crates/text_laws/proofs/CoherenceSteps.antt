@@ -188,6 +188,7 @@ owners-push n (x ∷ ss) s =
 abbrev pub bare : ℕ → Stock
 bare owner = record { owner = Some owner; items = []; inner = [] }
 
+-- one more element with its owned member
 pub element_step : (ss : List Stock) (ms : List DraftMember) (is : List DraftImport) (m : DraftMember) → m.target ≡ Owned (length ss)
     → AreCoherent ss ms is m.owner
     → AreCoherent (adjusted m.owner (with_owned (length ms)) ss ++ bare m.owner ∷ []) (ms ++ m ∷ []) is (length ss)
@@ -218,6 +219,7 @@ element_step ss ms is m owned h =
       imports = imports_wider (length ss) (length (adjusted m.owner (with_owned (length ms)) ss ++ bare m.owner ∷ [])) is (omega (arith, long)) h.imports;
     }
 
+-- one more alias of the open element
 pub alias_step : (ss : List Stock) (ms : List DraftMember) (is : List DraftImport) (m : DraftMember)
     → ((s : Stock) → slice_get ss m.owner ≡ Some s → m.target ≡ Alias (length s.inner))
     → AreCoherent ss ms is m.owner → AreCoherent (adjusted m.owner (with_held (item.Member (length ms)) role.Alias) ss) (ms ++ m ∷ []) is m.owner
@@ -242,6 +244,7 @@ alias_step ss ms is m alias h =
       target_at (s ∷ ss) zero below alias = (length s.inner, alias s refl)
       target_at (s ∷ ss) (suc c) below alias = target_at ss c (omega (arith, below)) alias
 
+-- one more import of the open element
 pub import_step : (ss : List Stock) (ms : List DraftMember) (is : List DraftImport) (i : DraftImport)
     → ((s : Stock) → slice_get ss i.owner ≡ Some s → i.at ≡ length s.inner)
     → AreCoherent ss ms is i.owner → AreCoherent (adjusted i.owner (with_held (item.Import (length is)) role.Import) ss) ms (is ++ i ∷ []) i.owner

@@ -62,6 +62,7 @@ pub record IsDerivedSoFar (w : Walk) : Type 0 where
   pub roles : Every (λ x. Every (λ m. role_fits m.role x.kind ≡ true) (mentions_of x)) w.elements
   pub root : HasRootKind w.elements
 
+-- what the claims say of the walk over a tree
 pub derived : (t : Tables) (wholes : List Claim) (roles : List RoleClaim) (text : List ℕ) (g : Table) → are_wholes t wholes g ≡ true
     → are_roles t roles g ≡ true
     → (ts : List Token) (f : Forest) → IsTree g (kinds_of ts) f → Every (λ x. HasNumber x.kind) ts → IsDerivedSoFar (walk t text Group f (start ts))

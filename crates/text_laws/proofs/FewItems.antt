@@ -17,13 +17,16 @@ use Rattle.text_model.specs.Slacks.{weight, weights, slack_at, slack_of, makes, 
 use Rattle.text_laws.proofs.CoherenceLaws.{alike_from}
 use Rattle.linker_base.proofs.Cases.{both_true}
 
+-- how many members and imports there are
 abbrev pub items_of : Walk → ℕ
 items_of w = length w.members + length w.imports
 
+-- weights add up
 pub weights-append : (js ks : List ℕ) → weights (js ++ ks) ≡ weights js + weights ks
 weights-append [] ks = omega arith
 weights-append (j ∷ js) ks = omega (arith, weights-append js ks)
 
+-- what the test says of one production
 pub rule_slack : (t : Tables) (claims : List ℕ) (n p : ℕ) (rs : List Rule) (r : Rule) → all_slack t claims n rs ≡ true → slice_get rs p ≡ Some r
     → slack_at claims r.left + makes (action_at t (n + p)) ≤ slack_of claims r.right
 rule_slack t claims n p [] r ok at = cc
@@ -61,6 +64,7 @@ node_items_less action.Level w v more less h = omega (arith, h)
 node_items_less action.Tail w v more less h = omega (arith, h)
 node_items_less other w v more less h = omega (arith, h)
 
+-- a walk makes fewer items than its tokens weigh, by the slack
 pub walk_items : (t : Tables) (claims : List ℕ) (text : List ℕ) (g : Table) → all_slack t claims 0 g.rules ≡ true
     → (f : Forest) (ss : List Symbol) (a : Action) (w : Walk) → IsDerivation g ss f
     → items_of (walk t text a f w) + slack_of claims ss ≤ items_of w + weights (tokens f)

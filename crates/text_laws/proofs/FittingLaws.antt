@@ -36,22 +36,27 @@ use Rattle.text_laws.specs.Fits.{Every, PathFits, NameFits, WhatFits, NodesFit, 
 
 -- Every.
 
+-- what holds of each in the one sense holds in the other
 pub every_on : {A : Type 0} (P Q : A → Type 0) (xs : List A) → ((x : A) → P x → Q x) → Every P xs → Every Q xs
 every_on P Q [] on e = tt
 every_on P Q (x ∷ xs) on e = (on x e.0, every_on P Q xs on e.1)
 
+-- of two lists, one after the other
 pub every_append : {A : Type 0} (P : A → Type 0) (xs ys : List A) → Every P xs → Every P ys → Every P (xs ++ ys)
 every_append P [] ys e f = f
 every_append P (x ∷ xs) ys e f = (e.0, every_append P xs ys e.1 f)
 
+-- and back, of the first
 pub every_front : {A : Type 0} (P : A → Type 0) (xs ys : List A) → Every P (xs ++ ys) → Every P xs
 every_front P [] ys h = tt
 every_front P (x ∷ xs) ys h = (h.0, every_front P xs ys h.1)
 
+-- and of the second
 pub every_back : {A : Type 0} (P : A → Type 0) (xs ys : List A) → Every P (xs ++ ys) → Every P ys
 every_back P [] ys h = h
 every_back P (x ∷ xs) ys h = every_back P xs ys h.1
 
+-- and of a list with one item changed
 pub every_adjusted : {A : Type 0} (P : A → Type 0) (c : ℕ) (f : A → A) (xs : List A) → ((x : A) → P x → P (f x)) → Every P xs → Every P (adjusted c f xs)
 every_adjusted P c f [] on e = tt
 every_adjusted P zero f (x ∷ xs) on e = (on x e.0, e.1)
@@ -84,6 +89,7 @@ draft_later n r s d le h = record {
 
 -- Names among nodes.
 
+-- the names among nodes that fit
 pub names_fit : (n r : ℕ) (ns : List DraftNode) → NodesFit n r ns → Every (PathFits n r) (names ns)
 names_fit n r [] h = tt
 names_fit n r (x ∷ ns) h = every_append (PathFits n r) (name_in x.what) (names ns) (one x.what h.0) (names_fit n r ns h.1) where
@@ -91,6 +97,7 @@ names_fit n r (x ∷ ns) h = every_append (PathFits n r) (name_in x.what) (names
   one (what.Named p) k = (k, tt)
   one other k = tt
 
+-- a name that was read fits as one of an alias or import
 pub name_fits_in : (n r : ℕ) (p : Path) → PathFits n r p → NameFits n p
 name_fits_in n r p h = record { some = h.some; short = omega (arith, h.short) }
 
@@ -304,6 +311,7 @@ rest_operator : (a : Action) (o : Operator) (place : ℕ) (w : Walk) → (meant_
 rest_operator Star o place w = refl
 rest_operator other o place w = refl
 
+-- what a token means takes no further one
 pub rest_meant : (text : List ℕ) (a : Action) (means : Meaning) (t : Token) (w : Walk) → (meant text a means t w).rest ≡ w.rest
 rest_meant text a meaning.Name t w = rest_name a t (name_meaning (bytes_of text t)) w
 rest_meant text a (meaning.Operator o) t w = rest_operator a o t.from w
@@ -421,6 +429,7 @@ given_fits m n taking.Import f x w r h =
     (path_fits n (length w.rest) f.place (names x.nodes) (names_fit n (length w.rest) x.nodes r.nodes)) k) h in
     record { drafts = c.drafts; reading = c.reading; rest = c.rest }
 
+-- nor does what is given to an element
 pub rest_given : (d : Taking) (f : Frame) (x : Reading) (w : Walk) → (given d f x w).rest ≡ w.rest
 rest_given d f x w = elim d as (λ d. (given d f x w).rest ≡ w.rest) [
   | taking.Subclass ↦ refl
@@ -492,6 +501,7 @@ node_fits m n other w v le h on =
     let b = on m le h in
     record { fits = b.fits; fewer = b.fewer }
 
+-- a walk keeps all fitting, and takes tokens alone
 pub walk_fits : (m n : ℕ) (t : Tables) (text : List ℕ) (a : Action) (f : Forest) (w : Walk) → m ≤ n → WalkFits m n w → FitsOn m n w (walk t text a f w)
 walk_fits m n t text a Nothing w le h = record { fits = h; fewer = omega arith }
 walk_fits m n t text a (Leaf k rest) w le h =
@@ -514,6 +524,7 @@ rest_entered Level w = refl
 rest_entered Tail w = refl
 rest_entered other w = refl
 
+-- nor at its end
 pub rest_left : (a : Action) (f : Frame) (w : Walk) → (left a f w).rest ≡ w.rest
 rest_left (Element k) f w = refl
 rest_left (Take d) f w = rest_given d f w.reading (record w { reading = f.reading })

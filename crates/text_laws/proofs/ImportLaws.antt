@@ -36,6 +36,7 @@ use Rattle.text_laws.proofs.ListLemmas.{get_front, get_last}
 use Rattle.text_laws.proofs.FittingLaws.{every_on, every_append}
 use Rattle.text_laws.proofs.CoherenceLaws.{alike_coherent, alike_from, entered_on, walk_on, left_on}
 
+-- the import's name is one of its element's, and stands where the import says
 pub record IsLinked (ds : List Draft) (i : DraftImport) : Type 0 where
   pub mention : Mention
   pub found : slice_get (inner_at ds i.owner) i.at ≡ Some mention
@@ -81,6 +82,7 @@ inner_last c i r p [] below = absurd (omega (arith, below))
 inner_last zero i r p (d ∷ ds) below = get_last d.inner (mention r p)
 inner_last (suc c) i r p (d ∷ ds) below = inner_last c i r p ds (omega (arith, below))
 
+-- so does that of every import
 abbrev pub AreLinked : Walk → Type 0
 AreLinked w = Every (IsLinked w.elements) w.imports
 
@@ -141,6 +143,7 @@ linked_left (action.Element k) f w open_ h = linked_changed (named w.reading) w 
 linked_left (action.Take d) f w open_ h = linked_given d f w.reading (record w { reading = f.reading }) open_ h
 linked_left other f w open_ h = h
 
+-- a walk keeps that
 pub walk_linked : (t : Tables) (text : List ℕ) (a : Action) (f : Forest) (w : Walk) → IsCoherent w → AreLinked w → AreLinked (walk t text a f w)
 walk_linked t text a Nothing w c h = h
 walk_linked t text a (Leaf k rest) w c h = walk_linked t text a rest (taken t text a w) (alike_coherent w (taken t text a w) (alike_from t text a w.rest w) c)

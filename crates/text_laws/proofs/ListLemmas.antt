@@ -5,6 +5,7 @@ use Rattle.text_model.specs.declared.draft.DraftNode.{DraftNode}
 use Rattle.text_model.specs.Drafts.{adjusted, name_in, names}
 use Rattle.text_laws.specs.Coherent.{EachFrom}
 
+-- as many items as before
 pub length-adjusted : {A : Type 0} (c : ℕ) (f : A → A) (xs : List A) → length (adjusted c f xs) ≡ length xs
 length-adjusted c f [] = refl
 length-adjusted zero f (x ∷ xs) = refl
@@ -23,6 +24,7 @@ map-adjusted g h c f [] same = refl
 map-adjusted g h zero f (x ∷ xs) same = ap (λ y. y ∷ map g xs) (same x)
 map-adjusted g h (suc c) f (x ∷ xs) same = ap (λ ys. g x ∷ ys) (map-adjusted g h c f xs same)
 
+-- from one number on, what holds in the one sense holds in the other
 pub each_above : {A : Type 0} (P Q : ℕ → A → Type 0) (n : ℕ) (xs : List A) → ((e : ℕ) (x : A) → n ≤ e → P e x → Q e x) → EachFrom P n xs → EachFrom Q n xs
 each_above P Q n [] on each = tt
 each_above P Q n (x ∷ xs) on each = (on n x (omega arith) each.0, each_above P Q (suc n) xs (λ e y above p. on e y (omega (arith, above)) p) each.1)
@@ -42,6 +44,7 @@ each_adjusted P Q f t n (suc c) (x ∷ xs) is other this each = (
   each_adjusted P Q f t (suc n) c xs (omega (arith, is)) other this each.1,
 )
 
+-- one more at the end
 pub each_push : {A : Type 0} (P : ℕ → A → Type 0) (t n : ℕ) (xs : List A) (x : A) → t ≡ n + length xs → EachFrom P n xs → P t x → EachFrom P n (xs ++ x ∷ [])
 each_push P t n [] x is each p = let same : t ≡ n = omega (arith, is) in (subst (λ k. P k x) same p, tt)
 each_push P t n (y ∷ ys) x is each p = (each.0, each_push P t (suc n) ys x (omega (arith, is)) each.1 p)
@@ -52,6 +55,7 @@ get_front [] ys i below = absurd (omega (arith, below))
 get_front (x ∷ xs) ys zero below = refl
 get_front (x ∷ xs) ys (suc i) below = get_front xs ys i (omega (arith, below))
 
+-- the last is found at the length of the others
 pub get_last : {A : Type 0} (xs : List A) (x : A) → slice_get (xs ++ x ∷ []) (length xs) ≡ Some x
 get_last [] x = refl
 get_last (y ∷ ys) x = get_last ys x

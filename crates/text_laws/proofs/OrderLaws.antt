@@ -505,6 +505,7 @@ order_node t claims (action.Take taking.Import) ss w v m y n k run cw cv some le
     (λ l s q. spans l s q refl)
 order_node t claims other ss w v m y n k run cw cv some le p o on spans = quiet_node t claims other ss w v m y n k refl run le p o on
 
+-- a walk keeps places in order
 pub order_walk : (t : Tables) (claims : List ModeClaim) (text : List ℕ) (g : Table) → all_modes t claims 0 g.rules ≡ true
     → (f : Forest) (ss : List Symbol) (a : Action) (ks : List ℕ) (w : Walk) (m y : Mode) (n k : ℕ)
     → IsDerivation g ss f → IsAt (tokens f ++ ks) w → IsCoherent w → modes t claims ss (Some m) ≡ Some y → k ≤ n → Placed m n w.waiting w.rest → OrderOf k w

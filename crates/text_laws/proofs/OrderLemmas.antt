@@ -50,10 +50,12 @@ abbrev pub member_stands : Option DraftMember → List ℕ
 member_stands None = []
 member_stands (Some m) = m.place ∷ []
 
+-- where an import of a draft stands
 abbrev pub import_stands : Option DraftImport → List ℕ
 import_stands None = []
 import_stands (Some i) = i.place ∷ []
 
+-- where an item stands
 abbrev pub stands : List DraftMember → List DraftImport → Item → List ℕ
 stands ms is (item.Member m) = member_stands (slice_get ms m)
 stands ms is (item.Import i) = import_stands (slice_get is i)
@@ -68,11 +70,13 @@ stands_more ms ms' is is' (item.Import i ∷ items) within =
     ap (λ o. import_stands o ++ flat_map (stands (ms ++ ms') (is ++ is')) items) (get_front is is' i within.0)
     ∙ ap (λ hs. import_stands (slice_get is i) ++ hs) (stands_more ms ms' is is' items within.1)
 
+-- places of members, of imports and of each element's items rise, and stand before k
 pub record InOrder (k : ℕ) (ss : List Stock) (ms : List DraftMember) (is : List DraftImport) : Type 0 where
   pub members : Sorted k (map (λ m. m.place) ms)
   pub imports : Sorted k (map (λ i. i.place) is)
   pub items : Every (λ s. Sorted k (flat_map (stands ms is) s.items)) ss
 
+-- and before any later place
 pub order_more : (k l : ℕ) (ss : List Stock) (ms : List DraftMember) (is : List DraftImport) → k ≤ l → InOrder k ss ms is → InOrder l ss ms is
 order_more k l ss ms is le o = record {
   members = sorted_more k l (map (λ m. m.place) ms) le o.members;
@@ -107,6 +111,7 @@ with_more n (suc c) f i (s ∷ ss) k p ms ms' is is' le one at each o = (
   with_more (suc n) c f i ss k p ms ms' is is' le one at each.1 o.1,
 )
 
+-- one more member, behind all
 pub member_order : (c : ℕ) (f : Stock → Stock) (ss : List Stock) (ms : List DraftMember) (is : List DraftImport) (m : DraftMember) (k : ℕ) → k ≤ m.place
     → ((s : Stock) → (f s).items ≡ s.items ++ item.Member (length ms) ∷ []) → EachFrom (Holds ms is) 0 ss → InOrder k ss ms is
     → InOrder (suc m.place) (adjusted c f ss) (ms ++ m ∷ []) is
@@ -120,6 +125,7 @@ member_order c f ss ms is m k le one each o =
           (with_more 0 c f (item.Member (length ms)) ss k m.place ms (m ∷ []) is [] le one at each o.items);
     }
 
+-- one more import, behind all
 pub import_order : (c : ℕ) (f : Stock → Stock) (ss : List Stock) (ms : List DraftMember) (is : List DraftImport) (i : DraftImport) (k : ℕ) → k ≤ i.place
     → ((s : Stock) → (f s).items ≡ s.items ++ item.Import (length is) ∷ []) → EachFrom (Holds ms is) 0 ss → InOrder k ss ms is
     → InOrder (suc i.place) (adjusted c f ss) ms (is ++ i ∷ [])

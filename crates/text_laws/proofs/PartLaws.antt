@@ -34,6 +34,7 @@ use Rattle.text_model.specs.Numbering.{nodes_of, ends, own_mentions, bound_menti
 use Rattle.text_laws.specs.Sound.{HasRootKind, IsWholeDraft}
 use Rattle.text_laws.proofs.FittingLaws.{every_on, every_append, names_fit, name_fits_in}
 
+-- few, as the test says it
 pub few_from : (n : ℕ) → n < 2 ^ 32 → is_few n ≡ true
 few_from n below = (Decides-ltb n (2 ^ 32)).1 below
 
@@ -43,10 +44,12 @@ passes P test (x ∷ xs) on e = rw (on x e.0) (passes P test xs on e.1)
 
 -- Lengths.
 
+-- an element for each draft
 pub elements_long : (n : ℕ) (ds : List Draft) → length (elements_from n ds) ≡ length ds
 elements_long n [] = refl
 elements_long n (d ∷ ds) = ap suc (elements_long (n + width d) ds)
 
+-- a place for each reference
 pub references_placed : (e : ℕ) (ds : List Draft) → length (reference_places ds) ≡ length (references_from e ds)
 references_placed e [] = refl
 references_placed e (d ∷ ds) =
@@ -62,16 +65,19 @@ nodes_placed : (n : ℕ) (v : Option DraftExpr) → length (places_of (nodes_of 
 nodes_placed n None = refl
 nodes_placed n (Some x) = length-map x.nodes (λ (y : DraftNode). y.place) ∙ sym (length-numbered n x.nodes)
 
+-- and for each node of a value
 pub values_placed : (n : ℕ) (ds : List Draft) → map length (map (λ d. places_of (nodes_of d.value)) ds) ≡ map (λ e. nodes_in e.value) (elements_from n ds)
 values_placed n [] = refl
 values_placed n (d ∷ ds) = ap (λ k. k ∷ map length (map (λ d. places_of (nodes_of d.value)) ds)) (nodes_placed _ d.value)
     ∙ ap (λ ks. nodes_in (element n d).value ∷ ks) (values_placed (n + width d) ds)
 
+-- and of a result
 pub results_placed : (n : ℕ) (ds : List Draft) → map length (map (λ d. places_of (nodes_of d.result)) ds) ≡ map (λ e. nodes_in e.result) (elements_from n ds)
 results_placed n [] = refl
 results_placed n (d ∷ ds) = ap (λ k. k ∷ map length (map (λ d. places_of (nodes_of d.result)) ds)) (nodes_placed _ d.result)
     ∙ ap (λ ks. nodes_in (element n d).result ∷ ks) (results_placed (n + width d) ds)
 
+-- values are short
 pub values_few : (all rest : ℕ) (ds : List Draft) → all < 2 ^ 32 → Every (DraftFits all rest) ds → all_few (map (λ d. places_of (nodes_of d.value)) ds) ≡ true
 values_few all rest [] short h = refl
 values_few all rest (d ∷ ds) short h =
@@ -79,6 +85,7 @@ values_few all rest (d ∷ ds) short h =
     few_from (length (places_of (nodes_of d.value))) (omega (arith, short, h.0.short_value, length-map (nodes_of d.value) (λ (y : DraftNode). y.place))) in
     and_true (is_few (length (places_of (nodes_of d.value)))) (all_few (map (λ d. places_of (nodes_of d.value)) ds)) here (values_few all rest ds short h.1)
 
+-- and so are results
 pub results_few : (all rest : ℕ) (ds : List Draft) → all < 2 ^ 32 → Every (DraftFits all rest) ds → all_few (map (λ d. places_of (nodes_of d.result)) ds) ≡ true
 results_few all rest [] short h = refl
 results_few all rest (d ∷ ds) short h =
@@ -114,6 +121,7 @@ owned_here ds e n (d ∷ tail) at =
     ∙ ap (λ os. bearing ds (record { element = e; owner = d.owner }) ∷ os)
     (owned_here ds (suc e) (n + width d) tail (λ j. ap (draft_at ds) (omega arith) ∙ at (suc j)))
 
+-- each element but the root is owned once
 pub owned_once : (file : FileNo) (language : Language) (w : Walk)
     → record { element = 0; owner = None } ∷ owners_by w.members ≡ owners_from 0 (map stock w.elements) → IsOwnedOnce (model_of file language w)
 owned_once file language w owners =
@@ -126,6 +134,7 @@ owned_once file language w owners =
           ap (map (bearing (d ∷ ds))) rest ∙ sym (owned_here (d ∷ ds) 1 (0 + width d) ds (λ j. let one : 1 + j ≡ suc j = omega arith
           in ap (draft_at (d ∷ ds)) one))
 
+-- the root is first
 pub has_root : (w : Walk) → record { element = 0; owner = None } ∷ owners_by w.members ≡ owners_from 0 (map stock w.elements) → HasRootKind w.elements
     → HasRoot (elements_from 0 w.elements)
 has_root w owners kind = go w.elements owners kind where
@@ -144,12 +153,14 @@ numbers-map f n test same [] on = refl
 numbers-map f n test same (x ∷ xs) on =
     ap (λ b. chosen b n (numbers_from (suc n) test (map f xs))) (on x) ∙ ap (λ ns. chosen (same x) n ns) (numbers-map f (suc n) test same xs on)
 
+-- the numbering keeps owners
 pub member_owner : (ds : List Draft) (m : DraftMember) → (member ds m).owner ≡ m.owner
 member_owner ds m = go m.target where
   go : (t : DraftTarget) → (member_of ds t m).owner ≡ m.owner
   go (Owned x) = refl
   go (Alias k) = refl
 
+-- the members among an element's items are its members
 pub items_members : (file : FileNo) (language : Language) (w : Walk) (e n : ℕ) (ds : List Draft) → EachFrom (Holds w.members w.imports) e (map stock ds)
     → map members_in (map (λ d. d.items) ds) ≡ map (members_of (model_of file language w)) (places_from e (elements_from n ds))
 items_members file language w e n [] h = refl
@@ -159,6 +170,7 @@ items_members file language w e n (d ∷ ds) h =
     (λ m. ap (λ o. nat_eq o e) (member_owner w.elements m))))
     ∙ ap (λ ns. members_of (model_of file language w) e ∷ ns) (items_members file language w (suc e) (n + width d) ds h.1)
 
+-- and the imports its imports
 pub items_imports : (file : FileNo) (language : Language) (w : Walk) (e n : ℕ) (ds : List Draft) → EachFrom (Holds w.members w.imports) e (map stock ds)
     → map imports_in (map (λ d. d.items) ds) ≡ map (imports_of (model_of file language w)) (places_from e (elements_from n ds))
 items_imports file language w e n [] h = refl
@@ -169,6 +181,7 @@ items_imports file language w e n (d ∷ ds) h =
 
 -- Paths.
 
+-- at most, as the test says it
 pub leb_from : (a b : ℕ) → a ≤ b → nat_le a b ≡ true
 leb_from a b h = grind (arith, nat_tests)
 
@@ -199,6 +212,7 @@ paths_fit all rest d h =
     (mentions_long all rest role.Value (names (nodes_of d.result)) (names_fit all rest (nodes_of d.result) h.result)))))
     h.inner
 
+-- each path has a segment and is short
 pub all_paths : (all rest e : ℕ) (ds : List Draft) → all < 2 ^ 32 → Every (DraftFits all rest) ds → list_all has_path (references_from e ds) ≡ true
 all_paths all rest e [] short h = refl
 all_paths all rest e (d ∷ ds) short h =
@@ -211,6 +225,7 @@ all_paths all rest e (d ∷ ds) short h =
 
 -- Whole expressions.
 
+-- each value and result is whole
 pub all_whole : (n : ℕ) (ds : List Draft) → Every IsWholeDraft ds → list_all has_whole (elements_from n ds) ≡ true
 all_whole n [] h = refl
 all_whole n (d ∷ ds) h = and_true (has_whole (element n d)) (list_all has_whole (elements_from (n + width d) ds))
@@ -219,6 +234,7 @@ all_whole n (d ∷ ds) h = and_true (has_whole (element n d)) (list_all has_whol
 
 -- Contexts.
 
+-- each reference's role fits its element
 pub all_contexts : (file : FileNo) (language : Language) (w : Walk) (e n : ℕ) (ds : List Draft)
     → ((j : ℕ) → slice_get (elements_from 0 w.elements) (e + j) ≡ slice_get (elements_from n ds) j)
     → Every (λ x. Every (λ m. role_fits m.role x.kind ≡ true) (mentions_of x)) ds
@@ -236,6 +252,7 @@ all_contexts file language w e n (d ∷ ds) at h =
 
 -- Owners of the elements, without the root's.
 
+-- the owners of the elements are those of the drafts
 pub elements_owners : (n : ℕ) (ds : List Draft) → map (λ e. e.owner) (elements_from n ds) ≡ map (λ d. d.owner) ds
 elements_owners n [] = refl
 elements_owners n (d ∷ ds) = ap (λ os. d.owner ∷ os) (elements_owners (n + width d) ds)

@@ -117,6 +117,7 @@ node_grows (Take d) w v g =
     plain_node (Take d) (saved (Take d) w) w v (record { owners = refl; current = refl }) g (record { owners = l.owners; current = l.current })
 node_grows other w v g = plain_node other (saved other w) w v (record { owners = refl; current = refl }) g (record { owners = refl; current = refl })
 
+-- a walk adds trees of elements
 pub walk_grows : (t : Tables) (text : List ℕ) (a : Action) (f : Forest) (w : Walk) → Grows w (walk t text a f w)
 walk_grows t text a Nothing w = grows_steady w w (record { owners = refl; current = refl })
 walk_grows t text a (Leaf k rest) w =

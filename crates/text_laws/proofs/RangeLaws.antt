@@ -297,6 +297,7 @@ imports_in_range file language w c h n (i ∷ is) at below =
     (import_in file language w c h (n + 0) i (at 0) below.0)
     (imports_in_range file language w c h (suc n) is (λ j. ap (slice_get w.imports) (omega arith) ∙ at (suc j)) below.1)
 
+-- each number is in range
 pub in_range : (file : FileNo) (language : Language) (w : Walk) → IsCoherent w → IsInRange (model_of file language w)
 in_range file language w h =
     let len : length (map stock w.elements) ≡ length w.elements = length-map w.elements stock in

@@ -29,13 +29,16 @@ use Rattle.text_laws.proofs.FittingLaws.{every_append, every_front, every_back}
 
 -- The names that were read, where B says at which places they may stand.
 
+-- a `$` that waits stands there
 abbrev pub RootAt : (ℕ → Type 0) → Option ℕ → Type 0
 RootAt B None = Unit {0}
 RootAt B (Some p) = B p
 
+-- names among nodes stand there
 abbrev pub NamesAt : (ℕ → Type 0) → List DraftNode → Type 0
 NamesAt B ns = Every (λ p. B p.place) (names ns)
 
+-- all that was read stands there
 pub record ReadAt (B : ℕ → Type 0) (r : Reading) : Type 0 where
   pub names : NamesAt B r.nodes
   pub root : RootAt B r.root
@@ -112,6 +115,7 @@ meant_at B text a other t w here h = h
 pub none_read : (B : ℕ → Type 0) → ReadAt B fresh
 none_read B = record { names = tt; root = tt }
 
+-- what is given to an element changes nothing that was read
 pub reading_given : (d : Taking) (f : Frame) (r : Reading) (w : Walk) → (given d f r w).reading ≡ w.reading
 reading_given taking.Alias f r w = refl
 reading_given taking.Import f r w = refl

@@ -127,6 +127,7 @@ entered_within (action.Element k) w h =
     omega (arith, length-append es (draft k (Some w.current) ∷ []), length-adjusted w.current (with_item (item.Member (length w.members))) w.elements)
 entered_within other w h = h
 
+-- a walk changes none of the elements before but the open one
 pub walk_keeps : (t : Tables) (text : List ℕ) (a : Action) (f : Forest) (w : Walk) → w.current < length w.elements → KeepsOthers w (walk t text a f w)
 walk_keeps t text a Nothing w h = keeps_read w w refl refl
 walk_keeps t text a (Leaf k rest) w h =
@@ -284,6 +285,7 @@ takes_some : (d : Taking) (s : State) (o : Option State) (s' : State) → takes 
 takes_some d s None s' is = cc
 takes_some d s (Some e) s' is = (e, refl)
 
+-- a state that is stronger than one is one
 pub stronger_some : (o : Option State) (e : State) → is_stronger o (Some e) ≡ true → (x : State) × (o ≡ Some x)
 stronger_some None e is = cc
 stronger_some (Some x) e is = (x, refl)
@@ -313,6 +315,7 @@ node_roles t claims action.Tail ss w v s s' is h on g = on s s' is
     (roles_read s w (entered action.Tail w) refl refl (λ f. joined_free w.reading.nodes w.reading.operator (h.free f)) h)
 node_roles t claims other ss w v s s' is h on g = on s s' is h
 
+-- a walk over a derivation is at the state that the claims give
 pub walk_roles : (t : Tables) (claims : List RoleClaim) (text : List ℕ) (g : Table) → all_roles t claims 0 g.rules ≡ true
     → (f : Forest) (ss : List Symbol) (a : Action) (ks : List ℕ) (w : Walk) (s s' : State)
     → IsDerivation g ss f → IsAt (tokens f ++ ks) w → states t claims a ss (Some s) ≡ Some s' → RolesAt s w → RolesAt s' (walk t text a f w)

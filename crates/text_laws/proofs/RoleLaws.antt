@@ -53,6 +53,7 @@ feature_type kind.Comment e = cc
 feature_type kind.Documentation e = cc
 feature_type other e = refl
 
+-- a class that another covers
 pub covers_passes : (n m : Class) (k : Kind) → covers n m ≡ true → passes_class n k ≡ true → passes_class m k ≡ true
 covers_passes n AnyKind k e h = refl
 covers_passes TypeKind TypeKind k e h = h
@@ -62,6 +63,7 @@ covers_passes CommentKind CommentKind k e h = h
 covers_passes RootKind RootKind k e h = h
 covers_passes n m k e h = cc
 
+-- each kind passes its own class
 pub own_class : (k : Kind) → passes_class (class_of k) k ≡ true
 own_class k = go (is_feature k) refl (is_type k) refl (is_comment k) refl where
   go : (f : Bool) → is_feature k ≡ f → (t : Bool) → is_type k ≡ t → (c : Bool) → is_comment k ≡ c
@@ -95,6 +97,7 @@ role_of taking.Redefinition = role.Redefinition
 role_of taking.ReferenceSubsetting = role.ReferenceSubsetting
 role_of other = role.Value
 
+-- a role fits the kinds that its taking needs
 pub needed_fits : (d : Taking) (k : Kind) → passes_class (needs_of d) k ≡ true → role_fits (role_of d) k ≡ true
 needed_fits taking.Subclass k e = e
 needed_fits taking.Typing k e = e
@@ -108,6 +111,7 @@ pub type_own : (k : Kind) → is_type k ≡ true → role_fits (own_role k) k �
 type_own kind.Comment e = refl
 type_own other e = e
 
+-- what a comment is about fits it
 pub comment_own : (k : Kind) → is_comment k ≡ true → role_fits (own_role k) k ≡ true
 comment_own kind.Comment e = refl
 comment_own other e = cc
@@ -128,6 +132,7 @@ four_pass test n e t l =
       go true false a b c d = c
       go true true a b c d = d
 
+-- what the test says of one production and one state
 pub state_meets : (t : Tables) (claims : List RoleClaim) (c : RoleClaim) (a : Action) (ss : List Symbol) → meets_all t claims c a ss ≡ true → (s : State)
     → is_stronger (production_state t claims a ss s) (claimed c s) ≡ true
 state_meets t claims c a ss ok s =
@@ -149,6 +154,7 @@ state_meets t claims c a ss ok s =
       go CommentKind p q u v x = four_pass (meets_roles t claims c a ss) CommentKind v s.taken s.loose
       go RootKind p q u v x = four_pass (meets_roles t claims c a ss) RootKind x s.taken s.loose
 
+-- what it says of one of all
 pub rule_roles : (t : Tables) (claims : List RoleClaim) (n p : ℕ) (rs : List Rule) (r : Rule) → all_roles t claims n rs ≡ true → slice_get rs p ≡ Some r
     → meets_all t claims (role_claim_at claims r.left) (action_at t (n + p)) r.right ≡ true
 rule_roles t claims n p [] r ok at = cc
@@ -165,11 +171,13 @@ rule_roles t claims n (suc p) (x ∷ rs) r ok at =
 
 -- The draft that is open, and the others.
 
+-- the draft that is changed
 pub at_adjusted : (ds : List Draft) (c : ℕ) (f : Draft → Draft) → c < length ds → draft_at (adjusted c f ds) c ≡ f (draft_at ds c)
 at_adjusted [] c f below = absurd (omega (arith, below))
 at_adjusted (d ∷ ds) zero f below = refl
 at_adjusted (d ∷ ds) (suc c) f below = at_adjusted ds c f (omega (arith, below))
 
+-- the others
 pub at_other : (ds : List Draft) (c e : ℕ) (f : Draft → Draft) → (e ≡ c → ⊥) → draft_at (adjusted c f ds) e ≡ draft_at ds e
 at_other [] c e f other = refl
 at_other (d ∷ ds) zero zero f other = absurd (other refl)
@@ -177,17 +185,20 @@ at_other (d ∷ ds) zero (suc e) f other = refl
 at_other (d ∷ ds) (suc c) zero f other = refl
 at_other (d ∷ ds) (suc c) (suc e) f other = at_other ds c e f (λ same. other (ap suc same))
 
+-- a draft before the end
 pub at_front : (ds xs : List Draft) (e : ℕ) → e < length ds → draft_at (ds ++ xs) e ≡ draft_at ds e
 at_front [] xs e below = absurd (omega (arith, below))
 at_front (d ∷ ds) xs zero below = refl
 at_front (d ∷ ds) xs (suc e) below = at_front ds xs e (omega (arith, below))
 
+-- the last draft
 pub at_last : (ds : List Draft) (d : Draft) (n : ℕ) → n ≡ length ds → draft_at (ds ++ d ∷ []) n ≡ d
 at_last [] d zero is = refl
 at_last [] d (suc n) is = absurd (omega (arith, is))
 at_last (x ∷ ds) d zero is = absurd (omega (arith, is))
 at_last (x ∷ ds) d (suc n) is = at_last ds d n (omega (arith, is))
 
+-- one draft changed, where all are good
 pub every_adjusted_at : (P : Draft → Type 0) (c : ℕ) (f : Draft → Draft) (ds : List Draft) → (P (draft_at ds c) → P (f (draft_at ds c))) → Every P ds
     → Every P (adjusted c f ds)
 every_adjusted_at P c f [] on e = tt
@@ -196,11 +207,13 @@ every_adjusted_at P (suc c) f (d ∷ ds) on e = (e.0, every_adjusted_at P c f ds
 
 -- What stands before and after.
 
+-- the roles of a draft's names fit its kind
 pub record DraftRoles (d : Draft) : Type 0 where
   pub specs : Every (λ m. role_fits m.role d.kind ≡ true) d.specs
   pub own : Every (λ m. role_fits m.role d.kind ≡ true) (mentions (own_role d.kind) d.own)
   pub inner : Every (λ m. (k : Kind) → role_fits m.role k ≡ true) d.inner
 
+-- the open element and the reading are at a state
 pub record RolesAt (s : State) (w : Walk) : Type 0 where
   pub fits : Every DraftRoles w.elements
   pub class : passes_class s.class (draft_at w.elements w.current).kind ≡ true
@@ -213,6 +226,7 @@ implied : (a b : Bool) → implies a b ≡ true → b ≡ false → a ≡ false
 implied true b e f = cc
 implied false b e f = refl
 
+-- what is at a state is at each weaker one
 pub weaken : (s e : State) (w : Walk) → is_stronger (Some s) (Some e) ≡ true → RolesAt s w → RolesAt e w
 weaken s e w is h =
     let a = both_true (covers s.class e.class) (implies s.taken e.taken && implies s.loose e.loose) is in
@@ -295,11 +309,13 @@ applying_free (operator.Binary binary.Subtract) place = refl
 applying_free (operator.Binary binary.Add) place = refl
 applying_free other place = refl
 
+-- operators bring no names
 pub joined_free : (ns : List DraftNode) (o : Option Waiting) → names ns ≡ [] → names (joined ns o) ≡ []
 joined_free ns None e = e
 joined_free ns (Some w) e = names-append ns (joining w.operator w.place)
     ∙ (ap (λ ps. ps ++ names (joining w.operator w.place)) e ∙ joining_free w.operator w.place)
 
+-- nor do signs
 pub applied_free : (ns : List DraftNode) (o : Option Waiting) → names ns ≡ [] → names (applied ns o) ≡ []
 applied_free ns None e = e
 applied_free ns (Some w) e = names-append ns (applying w.operator w.place)
@@ -394,6 +410,7 @@ meant_roles text a meaning.Name t w s s' is h = name_roles a t (name_meaning (by
 meant_roles text a meaning.Absolute t w s s' is h = same_state s s' _ is (roles_read s w (meant text a meaning.Absolute t w) refl refl (λ f. h.free f) h)
 meant_roles text a (meaning.Operator o) t w s s' is h = same_state s s' _ is (operator_roles a o t.from w s h)
 
+-- a token takes a state to the next
 pub taken_roles : (t : Tables) (text : List ℕ) (a : Action) (k : ℕ) (ks : List ℕ) (w : Walk) (ts : List Token) (s s' : State) → w.rest ≡ ts → IsAt (k ∷ ks) w
     → token_state a (meaning_at t k) s ≡ Some s' → RolesAt s w
     → RolesAt s' (taken_from t text a ts w)

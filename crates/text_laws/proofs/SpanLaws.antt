@@ -24,10 +24,12 @@ abbrev pub Rise : ℕ → List Token → Type 0
 Rise n [] = Unit {0}
 Rise n (t ∷ ts) = (n ≤ t.from) × Rise (suc t.from) ts
 
+-- from a lower place on
 pub rise_lower : (m n : ℕ) (ts : List Token) → m ≤ n → Rise n ts → Rise m ts
 rise_lower m n [] le h = tt
 rise_lower m n (t ∷ ts) le h = (omega (arith, le, h.0), h.1)
 
+-- the tokens of pieces rise
 pub tokens_rise : (language : Language) (at : ℕ) (ps : List Piece) (text rest : List ℕ) → Cut language ps text rest → Rise at (tokens_from at ps)
 tokens_rise language at [] text rest cut = tt
 tokens_rise language at (p ∷ ps) text rest cut = piece p.kind p.bytes cut.2.piece (tokens_rise language (at + length p.bytes) ps cut.0 rest cut.3) where
@@ -46,6 +48,7 @@ tokens_rise language at (p ∷ ps) text rest cut = piece p.kind p.bytes cut.2.pi
 abbrev pub Between : ℕ → ℕ → ℕ → Type 0
 Between lo hi place = (lo ≤ place) × (place < hi)
 
+-- a name that stands there
 abbrev pub InSpan : ℕ → ℕ → Path → Type 0
 InSpan lo hi p = Between lo hi p.place
 
@@ -114,6 +117,7 @@ span_node other w v lo hi le h r on =
     let i = on lo le h r in
     record { end = i.end; later = i.later; span = i.span; rise = i.rise }
 
+-- what a walk reads stands behind its beginning
 pub span_walk : (t : Tables) (text : List ℕ) (a : Action) (f : Forest) (w : Walk) (lo hi : ℕ) → lo ≤ hi → Span lo hi w.reading → Rise hi w.rest
     → SpanOn lo hi (walk t text a f w)
 span_walk t text a Nothing w lo hi le h r = record { end = hi; later = omega arith; span = h; rise = r }

@@ -33,6 +33,7 @@ abbrev pub is_tight : List ℕ → ℕ → List Symbol → Bool
 is_tight claims more [] = true
 is_tight claims more (s ∷ ss) = nat_le (suc more) (slack_of claims (s ∷ ss))
 
+-- or it is another symbol's
 abbrev pub tight_where : Bool → List ℕ → ℕ → List Symbol → Bool
 tight_where true claims more ss = is_tight claims more ss
 tight_where false claims more ss = true
@@ -48,6 +49,7 @@ abbrev pub is_top : Tables → List ℕ → Table → ℕ → List Symbol → Bo
 is_top t claims g more (Inner m ∷ []) = nat_le more 0 && all_tight t claims m 0 g.rules
 is_top t claims g more other = false
 
+-- or it is another symbol's
 abbrev pub top_where : Bool → Tables → List ℕ → Table → ℕ → List Symbol → Bool
 top_where true t claims g more ss = is_top t claims g more ss
 top_where false t claims g more ss = true
@@ -58,6 +60,7 @@ all_top t claims g p [] = true
 all_top t claims g p (r ∷ rs) =
     top_where (nat_eq r.left g.start) t claims g (makes (action_at t p)) r.right && all_top t claims g (suc p) rs
 
+-- the test holds of both grammars, by evaluation
 pub tops_hold : (l : Language) → all_top (tables_of l) (slacks_of l) (grammar_of l) 0 (grammar_of l).rules ≡ true
 unfolding grammar_of kerml_table kerml_rules kerml.sign kerml.word sysml_table sysml_rules sysml.sign sysml.word signs words tables_of
     kerml_actions sysml_actions slacks_of kerml_slacks sysml_slacks

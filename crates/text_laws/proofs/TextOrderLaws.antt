@@ -68,6 +68,7 @@ pub record IsInTextOrder (file : FileNo) (language : Language) (w : Walk) : Type
   pub imports : rises (flat_map (import_place (model_of file language w)) (model_of file language w).imports) ≡ true
   pub items : list_all (λ is. rises (flat_map (item_place (model_of file language w)) is)) (model_of file language w).items ≡ true
 
+-- the places of the model rise
 pub in_text_order : (file : FileNo) (language : Language) (w : Walk) (k : ℕ) → AreLinked w → InOrder k (map stock w.elements) w.members w.imports
     → IsInTextOrder file language w
 in_text_order file language w k h o = record {

@@ -54,6 +54,7 @@ token_fits language (kind.Sign n) (b ∷ bytes) more p = (omega (arith, place_be
 token_fits language (kind.Word n) [] more p = absurd p.0
 token_fits language (kind.Word n) (b ∷ bytes) more p = (omega (arith, place_below (words language) (b ∷ bytes) n p.1, few_words language), omega arith)
 
+-- the numbers of all tokens fit, and there are no more of them than bytes
 pub tokens_fit : (language : Language) (at : ℕ) (ps : List Piece) (text rest : List ℕ) → Cut language ps text rest
     → Every (λ t. HasNumber t.kind) (tokens_from at ps) × (length (tokens_from at ps) ≤ length text)
 tokens_fit language at [] text rest cut = (tt, omega arith)
@@ -97,6 +98,7 @@ token_weighs language (kind.Word n) bytes more p =
     let one : weight (260 + n) ≡ 1 = weight_one (260 + n) (λ e. omega (arith, e)) in
     omega (arith, one, (token_fits language (kind.Word n) bytes more p).1)
 
+-- nor do they weigh more
 pub tokens_weigh : (language : Language) (at : ℕ) (ps : List Piece) (text rest : List ℕ) → Cut language ps text rest
     → weights (kinds_of (tokens_from at ps)) ≤ length text
 tokens_weigh language at [] text rest cut = omega arith

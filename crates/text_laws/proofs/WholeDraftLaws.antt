@@ -117,6 +117,7 @@ gives_whole t claims text g ok taking.Result ss below ks w takes der at =
     (at_same (tokens below ++ ks) w (entered (action.Take taking.Result) w) refl at) e (record { nodes = refl; waiting = refl }))
 gives_whole t claims text g ok other ss below ks w takes der at = tt
 
+-- a walk over a derivation leaves whole expressions alone
 pub walk_whole : (t : Tables) (claims : List Claim) (text : List ℕ) (g : Table) → are_wholes t claims g ≡ true
     → (f : Forest) (ss : List Symbol) (a : Action) (ks : List ℕ) (w : Walk)
     → IsDerivation g ss f → IsAt (tokens f ++ ks) w → Every IsWholeDraft w.elements → Every IsWholeDraft (walk t text a f w).elements

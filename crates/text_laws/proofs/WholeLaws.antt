@@ -64,6 +64,7 @@ same_after : (n k : ℕ) (w : What) → stand_after (node_of k w) n ≡ stand_af
 same_after n k (what.Named p) = refl
 same_after n k other = refl
 
+-- numbered nodes leave as many values as their drafts
 pub stand_numbered : (k : ℕ) (ns : List DraftNode) (o : Option ℕ) → stand (numbered k ns) o ≡ stand_in ns o
 stand_numbered k ns None = refl
 stand_numbered k [] (Some n) = refl
@@ -88,6 +89,7 @@ HasWaits ForTwo before now = (x : Waiting) × (b : BinaryOp) × (now ≡ Some x)
 HasWaits ForOne before now = (x : Waiting) × (now ≡ Some x) × (is_sign x.operator ≡ true)
 HasWaits ForThree before now = (x : Waiting) × (now ≡ Some x) × (x.operator ≡ operator.If)
 
+-- the nodes that were read leave what an effect says
 pub record Stands (base : ℕ) (before : Option Waiting) (s : Effect) (r : Reading) : Type 0 where
   pub nodes : stand_in r.nodes (Some 0) ≡ Some (base + s.values)
   pub waiting : HasWaits s.waits before r.operator
@@ -102,6 +104,7 @@ leaf_stands base before s r q x pushed same leaf h = record {
 
 -- Tokens.
 
+-- a terminal means what its tokens do
 pub meaning_same : (t : Tables) (k : TokenKind) → HasNumber k → meaning_at t (terminal k) ≡ meaning_of t k
 meaning_same t kind.Name h = refl
 meaning_same t kind.Integer h = refl
@@ -198,10 +201,12 @@ meant_stands text a other t w base before s s' is h = let e : s ≡ s' = cc in s
 
 -- The tokens that are left after a forest.
 
+-- the tokens to come are of these kinds, and their numbers fit
 pub record IsAt (ks : List ℕ) (w : Walk) : Type 0 where
   pub kinds : kinds_of w.rest ≡ ks
   pub numbers : Every (λ t. HasNumber t.kind) w.rest
 
+-- one of them is taken
 pub at_taken : (t : Tables) (text : List ℕ) (a : Action) (k : ℕ) (ks : List ℕ) (w : Walk) (ts : List Token) → w.rest ≡ ts → IsAt (k ∷ ks) w
     → IsAt ks (taken_from t text a ts w)
 at_taken t text a k ks w [] is h = let e : kinds_of w.rest ≡ [] = ap kinds_of is in let f : kinds_of w.rest ≡ k ∷ ks = h.kinds in cc
@@ -211,9 +216,11 @@ at_taken t text a k ks w (x ∷ ts) is h =
     let n = subst (Every (λ (y : Token). HasNumber y.kind)) is h.numbers in
     record { kinds = ap kinds_of r ∙ (cc); numbers = subst (Every (λ (y : Token). HasNumber y.kind)) (sym r) n.1 }
 
+-- and none
 pub at_same : (ks : List ℕ) (w v : Walk) → v.rest ≡ w.rest → IsAt ks w → IsAt ks v
 at_same ks w v is h = record { kinds = ap kinds_of is ∙ h.kinds; numbers = subst (Every (λ (y : Token). HasNumber y.kind)) (sym is) h.numbers }
 
+-- a walk takes the tokens of its forest
 pub walk_at : (t : Tables) (text : List ℕ) (a : Action) (f : Forest) (ks : List ℕ) (w : Walk) → IsAt (tokens f ++ ks) w → IsAt ks (walk t text a f w)
 walk_at t text a Nothing ks w h = h
 walk_at t text a (Leaf k rest) ks w h = walk_at t text a rest ks (taken t text a w) (at_taken t text a k (tokens rest ++ ks) w w.rest refl h)
@@ -241,6 +248,7 @@ taken_stands t text a k ks w (x ∷ ts) base before s s' is h e stands =
 
 -- Facts of the tests.
 
+-- what the test says of one production
 pub rule_meets : (t : Tables) (claims : List Claim) (n p : ℕ) (rs : List Rule) (r : Rule) → all_meet t claims n rs ≡ true → slice_get rs p ≡ Some r
     → (meets_claim t claims (claim_at claims r.left) (action_at t (n + p)) r.right ≡ true) × (takes_whole t claims (action_at t (n + p)) r.right ≡ true)
 rule_meets t claims n p [] r ok at = cc
@@ -265,6 +273,7 @@ some_effect : (t : Tables) (claims : List Claim) (a : Action) (ss : List Symbol)
 some_effect t claims a ss None s is = cc
 some_effect t claims a ss (Some x) s is = (x, refl)
 
+-- an effect that is free
 pub free_effect : (n : ℕ) (o : Option Effect) → is_free n o ≡ true → o ≡ Some (effect n Free)
 free_effect n None is = cc
 free_effect n (Some s) is = go s.waits refl is where

@@ -1,10 +1,7 @@
 -- The members and the imports of a model are those that are written.
-use Rattle.std.proofs.Common.{◌≡◌, ℕ, zero, suc, ◌+◌, ◌<◌, List, [], ◌∷◌, ◌++◌, length, refl, ap, sym, subst, ◌∙◌, arith, length-append, append_assoc, append-nil}
+use Rattle.std.proofs.Common.{◌≡◌, ℕ, ◌+◌, ◌<◌, List, [], ◌∷◌, ◌++◌, length, refl, ap, sym, subst, ◌∙◌, arith, length-append, append_assoc, append-nil}
 use Rattle.std.specs.Prelude.{map, Option, Some, None}
 use Rattle.std.proofs.lemmas.List.{map-append}
-use Rattle.element_store.specs.declared.numbers.FileNo.{FileNo}
-use Rattle.element_store.specs.declared.outcome.Language.{Language}
-use Rattle.element_store.specs.Model.{Data}
 use Rattle.token_core.specs.declared.token.Token.{Token}
 use Rattle.ll_core.specs.Derives.{Forest, Nothing, Token as Leaf, Node}
 use Rattle.text_model.specs.declared.action.Action.{Action}
@@ -20,11 +17,11 @@ use Rattle.text_model.specs.declared.draft.Reading.{Reading}
 use Rattle.text_model.specs.Tables.{Tables, tables, action_at}
 use Rattle.text_model.specs.Walk.{Walk, Frame, saved, owned_member, entered, alias_member, import_of, given, left, taken, walk}
 use Rattle.text_model.specs.Numbering.{member, member_of, import_of as numbered_import, model_of}
-use Rattle.text_model.specs.Profile.{IsRead, InProfile, drafts_of, start}
+use Rattle.text_model.specs.Profile.{drafts_of, start}
 use Rattle.text_laws.specs.Written.{element_of, inner_owner, elements_in, behind, own_tokens}
-use Rattle.text_laws.specs.WrittenItems.{WrittenMember, makes_element, count_elements, element_member, alias_of, import_owner, members_in, importers_in, owned_by, as_written, HasWrittenItems, ItemsAreWritten}
+use Rattle.text_laws.specs.WrittenItems.{WrittenMember, makes_element, count_elements, element_member, alias_of, import_owner, members_in, importers_in, as_written, HasWrittenItems, ItemsAreWritten}
 use Rattle.text_laws.proofs.CoherenceLaws.{alike_from}
-use Rattle.text_laws.proofs.WrittenWalk.{Writes, walk_writes, length_written, current_entered, length_entered, open_entered}
+use Rattle.text_laws.proofs.WrittenWalk.{walk_writes, length_written, current_entered, length_entered, open_entered}
 use Rattle.text_laws.proofs.OutcomeLaws.{same_drafts}
 
 owned_in : DraftTarget → Option ℕ
@@ -117,9 +114,14 @@ elements_counted t around n (Node p below f) ts =
     let here = element_of a around (own_tokens t below ts) in
     let inner = elements_in t (inner_owner a around n) (n + length here) below ts in
     let rest = elements_in t around (n + length here + length inner) f (behind below ts) in
-    omega (arith, length-append here (inner ++ rest), length-append inner rest, one_element a around (own_tokens t below ts),
+    omega (
+      arith,
+      length-append here (inner ++ rest),
+      length-append inner rest,
+      one_element a around (own_tokens t below ts),
       elements_counted t (inner_owner a around n) (n + length here) below ts,
-      elements_counted t around (n + length here + length inner) f (behind below ts))
+      elements_counted t around (n + length here + length inner) f (behind below ts),
+    )
 
 walk_lists : (t : Tables) (text : List ℕ) (a : Action) (f : Forest) (w : Walk) → w.current < length w.elements
     → Lists w (walk t text a f w) (members_in t w.current (length w.elements) f) (importers_in t w.current (length w.elements) f)
@@ -134,7 +136,7 @@ walk_lists t text a (Leaf k f) w open_ =
     let h1 = subst (λ n. Lists v u (members_in t v.current n f) (importers_in t v.current n f)) long h in
     let h2 = subst (λ c. Lists v u (members_in t c (length w.elements) f) (importers_in t c (length w.elements) f)) s.current h1 in
     lists_through w v u [] (members_in t w.current (length w.elements) f) [] (importers_in t w.current (length w.elements) f)
-      (lists_none w v s.members s.imports) h2
+    (lists_none w v s.members s.imports) h2
 walk_lists t text a (Node p below f) w open_ =
     let b = action_at t p in
     let e = entered b w in
@@ -156,14 +158,14 @@ walk_lists t text a (Node p below f) w open_ =
     let g3 = subst (λ xs. Lists v l (alias_of b w.current) xs) (import_around b w.current n) g2 in
     let s = walk_writes t text a (Node p below Nothing) w open_ in
     let long : length l.elements ≡ m =
-        length_written t text w l (Node p below Nothing) s
-        ∙ ap (λ k. n + k) (elements_counted t w.current n (Node p below Nothing) w.rest ∙ omega arith) in
+    length_written t text w l (Node p below Nothing) s
+    ∙ ap (λ k. n + k) (elements_counted t w.current n (Node p below Nothing) w.rest ∙ omega arith) in
     let r = walk_lists t text a f l (omega (arith, open_, long, s.goes.current)) in
     let r1 = subst (λ k. Lists l u (members_in t l.current k f) (importers_in t l.current k f)) long r in
     let r2 = subst (λ o. Lists l u (members_in t o m f) (importers_in t o m f)) s.goes.current r1 in
     lists_through w e u (element_member b w.current n) _ [] _ (lists_entered b w)
-      (lists_through e v u (members_in t c (n + makes_element b) below) _ (importers_in t c (n + makes_element b) below) _ h2
-      (lists_through v l u (alias_of b w.current) _ (import_owner b w.current) _ g3 r2))
+    (lists_through e v u (members_in t c (n + makes_element b) below) _ (importers_in t c (n + makes_element b) below) _ h2
+    (lists_through v l u (alias_of b w.current) _ (import_owner b w.current) _ g3 r2))
 
 -- the numbering keeps what is written
 member_kept : (ds : List Draft) (ms : List DraftMember) → map as_written (map (member ds) ms) ≡ map draft_member ms
@@ -185,4 +187,4 @@ items_are_written file language text d tokens tree p read =
     let same = p.model ∙ ap (model_of file language) (same_drafts language text p.tokens tokens p.tree tree p.read read) in
     let h = walk_lists t text Group tree (start tokens) (omega arith) in
     subst (HasWrittenItems t tree) (sym same)
-      (record { members = member_kept w.elements w.members ∙ h.members; imports = import_kept w.elements w.imports ∙ h.imports })
+    (record { members = member_kept w.elements w.members ∙ h.members; imports = import_kept w.elements w.imports ∙ h.imports })

@@ -34,6 +34,7 @@ pub record Said : Type 0 where
   pub marks : Marks
   pub body : Option (List ℕ)
 
+-- what a draft has of that
 abbrev pub said : Draft → Said
 said d = record { owner = d.owner; kind = d.kind; marks = d.marks; body = d.body }
 
@@ -56,6 +57,7 @@ say t text (x ∷ xs) s = say t text xs (says text (meaning_of t x.kind) x s)
 abbrev pub begun : Written → Said
 begun w = record { owner = w.owner; kind = w.kind; marks = no_marks; body = None }
 
+-- behind its own tokens
 abbrev pub finished : Tables → List ℕ → Written → Said
 finished t text w = say t text w.own (begun w)
 
@@ -130,6 +132,7 @@ goes_still t text w v same current = record {
 
 -- A token.
 
+-- a name changes no element
 pub elements_name : (a : Action) (x : Token) (bytes : List ℕ) (w : Walk) → (meant_name a x bytes w).elements ≡ w.elements
 elements_name Name x bytes w = refl
 elements_name Short x bytes w = refl
@@ -137,6 +140,7 @@ elements_name Segment x bytes w = refl
 elements_name Step x bytes w = refl
 elements_name other x bytes w = refl
 
+-- nor does an operator
 pub elements_operator : (a : Action) (o : Operator) (place : ℕ) (w : Walk) → (meant_operator a o place w).elements ≡ w.elements
 elements_operator Star o place w = refl
 elements_operator other o place w = refl
@@ -176,6 +180,7 @@ said_given taking.Import f r w = map-adjusted_same said w.current
     (with_inner (item.Import (length w.imports)) role.Import (path_or f.place (names r.nodes))) w.elements (λ d. refl)
 said_given other f r w = map-adjusted_same said w.current _ w.elements (λ d. refl)
 
+-- the open element stays open
 pub current_given : (d : Taking) (f : Frame) (r : Reading) (w : Walk) → (given d f r w).current ≡ w.current
 current_given taking.Alias f r w = refl
 current_given taking.Import f r w = refl
@@ -220,6 +225,7 @@ current_entered Level w = refl
 current_entered Tail w = refl
 current_entered other w = refl
 
+-- how many elements there are below a production
 pub length_entered : (a : Action) (w : Walk) (own : List Token) → length (entered a w).elements ≡ length w.elements + length (element_of a w.current own)
 length_entered (Element k) w own =
     omega (
@@ -233,6 +239,7 @@ length_entered Level w own = omega arith
 length_entered Tail w own = omega arith
 length_entered other w own = omega arith
 
+-- and one of them is open
 pub open_entered : (a : Action) (w : Walk) → w.current < length w.elements → (entered a w).current < length (entered a w).elements
 open_entered (Element k) w below =
     omega (
@@ -248,10 +255,12 @@ open_entered other w below = below
 
 -- The walk.
 
+-- the walk makes the elements that the forest writes, and takes its tokens
 pub record Writes (t : Tables) (text : List ℕ) (w v : Walk) (f : Forest) : Type 0 where
   pub goes : Goes t text w v (own_tokens t f w.rest) (map (finished t text) (elements_in t w.current (length w.elements) f w.rest))
   pub rest : v.rest ≡ behind f w.rest
 
+-- each walk over each forest does
 pub walk_writes : (t : Tables) (text : List ℕ) (a : Action) (f : Forest) (w : Walk) → w.current < length w.elements
     → Writes t text w (walk t text a f w) f
 walk_writes t text a Nothing w open_ = record { goes = goes_still t text w w refl refl; rest = refl }
