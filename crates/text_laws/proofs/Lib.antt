@@ -27,4 +27,5 @@ pub mod OutcomeLaws
 pub mod WrittenWalk
 pub mod WrittenLaws
 pub mod WrittenItemLaws
+pub mod ItemNames
 pub mod OwnPlaceLaws

@@ -1,5 +1,5 @@
 -- References stand at own tokens of their elements.
-use Rattle.std.proofs.Common.{◌≡◌, inl, inr, ℕ, suc, ◌+◌, ◌<◌, true, false, List, [], ◌∷◌, ◌++◌, length, take, drop, refl, ap, sym, subst, ◌∙◌, arith, length-append, append_assoc, append-nil}
+use Rattle.std.proofs.Common.{◌≡◌, inl, inr, ℕ, zero, suc, ◌+◌, ◌<◌, ◌≤◌, List, [], ◌∷◌, ◌++◌, length, take, drop, refl, ap, sym, subst, ◌∙◌, arith, length-append, append_assoc, append-nil}
 use Rattle.std.specs.Prelude.{map, slice_get, Option, Some}
 use Rattle.std.proofs.lemmas.List.{map-append, length-map}
 use Rattle.linker_base.specs.Members.{IsMember}
@@ -32,12 +32,20 @@ use Rattle.text_model.specs.Profile.{drafts_of, start}
 use Rattle.text_laws.specs.Coherent.{EachFrom}
 use Rattle.text_laws.specs.Fits.{Every}
 use Rattle.text_laws.specs.Written.{Written, written, own_tokens, unless_element, element_of, inner_owner, elements_in, behind, OneByOne}
-use Rattle.text_laws.specs.OwnPlaces.{is_of_item, IsOwnPlace, StandsAtOwn, ReferencesStandAtOwn}
+use Rattle.text_laws.specs.OwnPlaces.{IsOwnPlace, StandsAtOwn, ReferencesStandAtOwn}
 use Rattle.text_laws.proofs.ListLemmas.{map-adjusted, map-adjusted_same, each_adjusted, each_push}
-use Rattle.text_laws.proofs.FittingLaws.{every_append, every_front, every_back, every_on, rest_entered}
+use Rattle.text_laws.proofs.FittingLaws.{every_append, every_front, every_back, rest_entered}
 use Rattle.text_laws.proofs.ReadingLaws.{NamesAt, ReadAt, joined_at, applied_at, meant_at, none_read, reading_given}
-use Rattle.text_laws.proofs.WrittenWalk.{elements_name, elements_operator, current_given, walk_writes, length_written, current_entered, length_entered, open_entered}
+use Rattle.text_laws.proofs.WrittenWalk.{said, finished, elements_name, elements_operator, current_given, walk_writes, length_written, current_entered, length_entered, open_entered}
 use Rattle.text_laws.proofs.OutcomeLaws.{same_drafts}
+use Rattle.token_core.specs.Lex.{Lex}
+use Rattle.token_core.specs.Terminals.{HasNumber}
+use Rattle.ll_core.specs.declared.grammar.Symbol.TheVariants.{Inner}
+use Rattle.text_model.specs.Languages.{grammar_of}
+use Rattle.text_laws.proofs.TokenLaws.{tokens_fit}
+use Rattle.text_laws.proofs.WholeLaws.{IsAt}
+use Rattle.text_laws.proofs.ItemNames.{name_claims, names_hold, ItemNamed, ItemsNamed, items_named}
+use Rattle.text_laws.proofs.WrittenLaws.{drafts_written}
 
 -- What an element keeps of names.
 
@@ -58,7 +66,7 @@ pub record PartsAt (A : ℕ → ℕ → Type 0) (e : ℕ) (s : Parts) : Type 0 w
   pub bounds : NamesAt (A e) s.bounds
   pub value : NamesAt (A e) (nodes_of s.value)
   pub result : NamesAt (A e) (nodes_of s.result)
-  pub inner : Every (λ m. is_of_item m.role ≡ true) s.inner
+  pub inner : Every (λ m. A e m.path.place) s.inner
 
 -- of all elements, and of what is read of the open one
 pub record WalkAt (A : ℕ → ℕ → Type 0) (w : Walk) : Type 0 where
@@ -135,16 +143,25 @@ specialised_at A which r w n h = parts_changed A _ (λ s. record s { specs = s.s
           every_append (λ m. A w.current m.path.place) s.specs (mentions which (names r.nodes)) p.specs (mentions_at (A w.current) which (names r.nodes) n);
     }) h
 
+-- the first of some names
+first_at : (B : ℕ → Type 0) (ps : List Path) → 1 ≤ length ps → Every (λ p. B p.place) ps → B (first_name ps).place
+first_at B [] one h = absurd (omega (arith, one))
+first_at B (p ∷ ps) one h = h.0
+
+path_at : (B : ℕ → Type 0) (place : ℕ) (ps : List Path) → 1 ≤ length ps → Every (λ p. B p.place) ps → B (path_or place ps).place
+path_at B place [] one h = absurd (omega (arith, one))
+path_at B place (p ∷ ps) one h = h.0
+
 given_at : (A : ℕ → ℕ → Type 0) (d : Taking) (f : Frame) (r : Reading) (w : Walk) → NamesAt (A w.current) r.nodes
-    → EachFrom (PartsAt A) 0 (map parts w.elements)
+    → ItemNamed (action.Take d) r.nodes → EachFrom (PartsAt A) 0 (map parts w.elements)
     → EachFrom (PartsAt A) 0 (map parts (given d f r w).elements)
-given_at A taking.Bounds f r w n h = parts_changed A _ (λ s. record s { bounds = r.nodes }) w (λ d. refl)
+given_at A taking.Bounds f r w n one h = parts_changed A _ (λ s. record s { bounds = r.nodes }) w (λ d. refl)
     (λ s p. record { own = p.own; specs = p.specs; bounds = n; value = p.value; result = p.result; inner = p.inner }) h
-given_at A taking.Value f r w n h = parts_changed A _ (λ s. record s { value = Some (expression r) }) w (λ d. refl)
+given_at A taking.Value f r w n one h = parts_changed A _ (λ s. record s { value = Some (expression r) }) w (λ d. refl)
     (λ s p. record { own = p.own; specs = p.specs; bounds = p.bounds; value = n; result = p.result; inner = p.inner }) h
-given_at A taking.Result f r w n h = parts_changed A _ (λ s. record s { result = Some (expression r) }) w (λ d. refl)
+given_at A taking.Result f r w n one h = parts_changed A _ (λ s. record s { result = Some (expression r) }) w (λ d. refl)
     (λ s p. record { own = p.own; specs = p.specs; bounds = p.bounds; value = p.value; result = n; inner = p.inner }) h
-given_at A taking.Alias f r w n h =
+given_at A taking.Alias f r w n one h =
     parts_changed A _ (λ s. record s { inner = s.inner ++ mention role.Alias (first_name (names r.nodes)) ∷ [] }) w (λ d. refl)
     (λ s p. record {
       own = p.own;
@@ -153,9 +170,10 @@ given_at A taking.Alias f r w n h =
       value = p.value;
       result = p.result;
       inner =
-          every_append (λ m. is_of_item m.role ≡ true) s.inner (mention role.Alias (first_name (names r.nodes)) ∷ []) p.inner (refl, tt);
+          every_append (λ m. A w.current m.path.place) s.inner (mention role.Alias (first_name (names r.nodes)) ∷ []) p.inner
+          (first_at (A w.current) (names r.nodes) one n, tt);
     }) h
-given_at A taking.Import f r w n h =
+given_at A taking.Import f r w n one h =
     parts_changed A _ (λ s. record s { inner = s.inner ++ mention role.Import (path_or f.place (names r.nodes)) ∷ [] }) w (λ d. refl)
     (λ s p. record {
       own = p.own;
@@ -164,13 +182,14 @@ given_at A taking.Import f r w n h =
       value = p.value;
       result = p.result;
       inner =
-          every_append (λ m. is_of_item m.role ≡ true) s.inner (mention role.Import (path_or f.place (names r.nodes)) ∷ []) p.inner (refl, tt);
+          every_append (λ m. A w.current m.path.place) s.inner (mention role.Import (path_or f.place (names r.nodes)) ∷ []) p.inner
+          (path_at (A w.current) f.place (names r.nodes) one n, tt);
     }) h
-given_at A taking.Subclass f r w n h = specialised_at A role.Subclass r w n h
-given_at A taking.Typing f r w n h = specialised_at A role.Typing r w n h
-given_at A taking.Subsetting f r w n h = specialised_at A role.Subsetting r w n h
-given_at A taking.Redefinition f r w n h = specialised_at A role.Redefinition r w n h
-given_at A taking.ReferenceSubsetting f r w n h = specialised_at A role.ReferenceSubsetting r w n h
+given_at A taking.Subclass f r w n one h = specialised_at A role.Subclass r w n h
+given_at A taking.Typing f r w n one h = specialised_at A role.Typing r w n h
+given_at A taking.Subsetting f r w n one h = specialised_at A role.Subsetting r w n h
+given_at A taking.Redefinition f r w n one h = specialised_at A role.Redefinition r w n h
+given_at A taking.ReferenceSubsetting f r w n one h = specialised_at A role.ReferenceSubsetting r w n h
 
 entered_at : (A : ℕ → ℕ → Type 0) (a : Action) (w : Walk) → WalkAt A w → WalkAt A (entered a w)
 entered_at A (action.Element k) w h =
@@ -196,30 +215,30 @@ entered_at A action.Tail w h = record {
 }
 entered_at A other w h = h
 
-left_at : (A : ℕ → ℕ → Type 0) (a : Action) (w v : Walk) → v.current ≡ (entered a w).current → ReadAt (A w.current) w.reading → WalkAt A v
-    → WalkAt A (left a (saved a w) v)
-left_at A (action.Element k) w v now r h = record {
+left_at : (A : ℕ → ℕ → Type 0) (a : Action) (w v : Walk) → v.current ≡ (entered a w).current → ItemNamed a v.reading.nodes
+    → ReadAt (A w.current) w.reading → WalkAt A v → WalkAt A (left a (saved a w) v)
+left_at A (action.Element k) w v now one r h = record {
   parts = parts_changed A (named v.reading) (λ s. record s { own = names v.reading.nodes }) v (λ d. refl)
       (λ s p. record { own = h.reading.names; specs = p.specs; bounds = p.bounds; value = p.value; result = p.result; inner = p.inner }) h.parts;
   reading = r;
 }
-left_at A (action.Take d) w v now r h =
+left_at A (action.Take d) w v now one r h =
     let f = saved (action.Take d) w in
     let u = record v { reading = w.reading } in
     let read : ReadAt (A v.current) w.reading = subst (λ c. ReadAt (A c) w.reading) (sym now) r in
     record {
-      parts = given_at A d f v.reading u h.reading.names h.parts;
+      parts = given_at A d f v.reading u h.reading.names one h.parts;
       reading = subst (λ c. ReadAt (A c) (given d f v.reading u).reading) (sym (current_given d f v.reading u))
           (subst (ReadAt (A v.current)) (sym (reading_given d f v.reading u)) read);
     }
-left_at A action.NamedEnd w v now r h = h
-left_at A action.Level w v now r h = record {
+left_at A action.NamedEnd w v now one r h = h
+left_at A action.Level w v now one r h = record {
   parts = h.parts;
   reading =
       record { names = applied_at (A v.current) v.reading.nodes v.reading.operator h.reading.names; root = h.reading.root };
 }
-left_at A action.Tail w v now r h = h
-left_at A other w v now r h = h
+left_at A action.Tail w v now one r h = h
+left_at A other w v now one r h = h
 
 -- The walk: own tokens stand where the names of their elements may.
 
@@ -246,9 +265,9 @@ own_below A other around n own h e = h
 
 pub walk_keeps_places : (A : ℕ → ℕ → Type 0) (t : Tables) (text : List ℕ) (a : Action) (f : Forest) (w : Walk) → w.current < length w.elements
     → TokensAt A w.current (own_tokens t f w.rest) → EachFrom (OwnAt A) (length w.elements) (elements_in t w.current (length w.elements) f w.rest)
-    → WalkAt A w → WalkAt A (walk t text a f w)
-walk_keeps_places A t text a Nothing w open_ own more h = h
-walk_keeps_places A t text a (Leaf k f) w open_ own more h =
+    → ItemsNamed t text a f w → WalkAt A w → WalkAt A (walk t text a f w)
+walk_keeps_places A t text a Nothing w open_ own more named_ h = h
+walk_keeps_places A t text a (Leaf k f) w open_ own more named_ h =
     let v = taken t text a w in
     let s = walk_writes t text a (Leaf k Nothing) w open_ in
     let rest : v.rest ≡ drop 1 w.rest = s.rest in
@@ -260,8 +279,8 @@ walk_keeps_places A t text a (Leaf k f) w open_ own more h =
     (subst (λ c. EachFrom (OwnAt A) (length v.elements) (elements_in t c (length v.elements) f v.rest)) (sym s.goes.current)
     (subst (λ n. EachFrom (OwnAt A) n (elements_in t w.current n f v.rest)) (sym long)
     (subst (λ ts. EachFrom (OwnAt A) (length w.elements) (elements_in t w.current (length w.elements) f ts)) (sym rest) more)))
-    (taken_at A t text a w.rest w mine h)
-walk_keeps_places A t text a (Branch p below f) w open_ own more h =
+    named_ (taken_at A t text a w.rest w mine h)
+walk_keeps_places A t text a (Branch p below f) w open_ own more named_ h =
     let b = action_at t p in
     let e = entered b w in
     let v = walk t text b below e in
@@ -289,8 +308,8 @@ walk_keeps_places A t text a (Branch p below f) w open_ own more h =
     let below_more = subst (λ c. EachFrom (OwnAt A) (length e.elements) (elements_in t c (length e.elements) below e.rest)) (sym c_is)
     (subst (λ k. EachFrom (OwnAt A) k (elements_in t (inner_owner b w.current (length w.elements)) k below e.rest)) (sym n_is)
     (subst (λ xs. EachFrom (OwnAt A) n (elements_in t (inner_owner b w.current (length w.elements)) n below xs)) (sym t_is) more_inner)) in
-    let hv = walk_keeps_places A t text b below e (open_entered b w open_) below_own below_more (entered_at A b w h) in
-    let hl = left_at A b w v i.goes.current h.reading hv in
+    let hv = walk_keeps_places A t text b below e (open_entered b w open_) below_own below_more named_.0 (entered_at A b w h) in
+    let hl = left_at A b w v i.goes.current named_.1 h.reading hv in
     let s = walk_writes t text a (Branch p below Nothing) w open_ in
     let rest : l.rest ≡ ts = s.rest ∙ ap (λ k. drop k w.rest) (ap length (append-nil (kinds_in below))) in
     let long : length l.elements ≡ m =
@@ -302,7 +321,7 @@ walk_keeps_places A t text a (Branch p below f) w open_ own more h =
     (subst (λ c. EachFrom (OwnAt A) (length l.elements) (elements_in t c (length l.elements) f l.rest)) (sym s.goes.current)
     (subst (λ k. EachFrom (OwnAt A) k (elements_in t w.current k f l.rest)) (sym long)
     (subst (λ xs. EachFrom (OwnAt A) m (elements_in t w.current m f xs)) (sym rest) more_rest)))
-    hl
+    named_.2 hl
 
 -- From drafts to references.
 
@@ -316,19 +335,16 @@ one_by_one-append P [] as_ (y ∷ ys) bs h k = absurd h
 one_by_one-append P (x ∷ xs) as_ [] bs h k = absurd h
 one_by_one-append P (x ∷ xs) as_ (y ∷ ys) bs h k = (h.0, one_by_one-append P xs as_ ys bs h.1 k)
 
-MentionAt : List Written → ℕ → Mention → Type 0
-MentionAt ws e m = is_of_item m.role ≡ false → is_own_place ws e m.path.place
+mentions_stand : (ws : List Written) (e : ℕ) (x : Written) (ms : List Mention) → slice_get ws e ≡ Some x
+    → Every (λ m. is_own_place ws e m.path.place) ms → OneByOne (StandsAtOwn ws) (map (reference e) ms) (map (λ m. m.path.place) ms)
+unfolding is_own_place
+mentions_stand ws e x [] at h = tt
+mentions_stand ws e x (m ∷ ms) at h = ((x, at, h.0 x at), mentions_stand ws e x ms at h.1)
 
-mentions_stand : (ws : List Written) (e : ℕ) (ms : List Mention) → Every (MentionAt ws e) ms
-    → OneByOne (StandsAtOwn ws) (map (reference e) ms) (map (λ m. m.path.place) ms)
-unfolding MentionAt is_own_place
-mentions_stand ws e [] h = tt
-mentions_stand ws e (m ∷ ms) h = (h.0, mentions_stand ws e ms h.1)
-
-of_role : (ws : List Written) (e : ℕ) (r : Role) (ps : List Path) → Every (λ p. is_own_place ws e p.place) ps → Every (MentionAt ws e) (mentions r ps)
-unfolding MentionAt
+of_role : (ws : List Written) (e : ℕ) (r : Role) (ps : List Path) → Every (λ p. is_own_place ws e p.place) ps
+    → Every (λ m. is_own_place ws e m.path.place) (mentions r ps)
 of_role ws e r [] h = tt
-of_role ws e r (p ∷ ps) h = (λ no. h.0, of_role ws e r ps h.1)
+of_role ws e r (p ∷ ps) h = (h.0, of_role ws e r ps h.1)
 
 ends_at : (B : ℕ → Type 0) (ns : List DraftNode) → NamesAt B ns → NamesAt B (ends ns)
 ends_at B [] h = tt
@@ -339,25 +355,31 @@ ends_at B (x ∷ y ∷ ns) h =
     every_append (λ p. B p.place) (name_in x.what) (names (y ∷ [])) g
     (every_append (λ p. B p.place) (name_in y.what) [] (every_front (λ p. B p.place) (name_in y.what) (names ns) k) tt)
 
-draft_stands : (ws : List Written) (e : ℕ) (d : Draft) → PartsAt (is_own_place ws) e (parts d) → Every (MentionAt ws e) (mentions_of d)
-unfolding MentionAt
+draft_stands : (ws : List Written) (e : ℕ) (d : Draft) → PartsAt (is_own_place ws) e (parts d) → Every (λ m. is_own_place ws e m.path.place) (mentions_of d)
 draft_stands ws e d h =
-    every_append (MentionAt ws e) (head d) d.inner
-    (every_append (MentionAt ws e) (own_mentions d) (bound_mentions d ++ value_mentions d)
-    (every_append (MentionAt ws e) (mentions (own_role d.kind) d.own) d.specs (of_role ws e (own_role d.kind) d.own h.own)
-    (every_on (λ m. is_own_place ws e m.path.place) (MentionAt ws e) d.specs (λ m x no. x) h.specs))
-    (every_append (MentionAt ws e) (bound_mentions d) (value_mentions d)
+    every_append (λ m. is_own_place ws e m.path.place) (head d) d.inner
+    (every_append (λ m. is_own_place ws e m.path.place) (own_mentions d) (bound_mentions d ++ value_mentions d)
+    (every_append (λ m. is_own_place ws e m.path.place) (mentions (own_role d.kind) d.own) d.specs (of_role ws e (own_role d.kind) d.own h.own)
+    h.specs)
+    (every_append (λ m. is_own_place ws e m.path.place) (bound_mentions d) (value_mentions d)
     (of_role ws e role.Bound (names (ends d.bounds)) (ends_at (is_own_place ws e) d.bounds h.bounds))
-    (every_append (MentionAt ws e) (mentions role.Value (names (nodes_of d.value))) (mentions role.Value (names (nodes_of d.result)))
+    (every_append (λ m. is_own_place ws e m.path.place) (mentions role.Value (names (nodes_of d.value))) (mentions role.Value (names (nodes_of d.result)))
     (of_role ws e role.Value (names (nodes_of d.value)) h.value) (of_role ws e role.Value (names (nodes_of d.result)) h.result))))
-    (every_on (λ m. is_of_item m.role ≡ true) (MentionAt ws e) d.inner (λ m yes no. absurd (cc)) h.inner)
+    h.inner
 
-all_stand : (ws : List Written) (e : ℕ) (ds : List Draft) → EachFrom (PartsAt (is_own_place ws)) e (map parts ds)
-    → OneByOne (StandsAtOwn ws) (references_from e ds) (reference_places ds)
-all_stand ws e [] h = tt
-all_stand ws e (d ∷ ds) h =
+all_stand : (ws : List Written) (e : ℕ) (ds : List Draft) → ((i : ℕ) → i < e + length ds → (x : Written) × (slice_get ws i ≡ Some x))
+    → EachFrom (PartsAt (is_own_place ws)) e (map parts ds) → OneByOne (StandsAtOwn ws) (references_from e ds) (reference_places ds)
+all_stand ws e [] has h = tt
+all_stand ws e (d ∷ ds) has h =
+    let here = has e (omega arith) in
     one_by_one-append (StandsAtOwn ws) (map (reference e) (mentions_of d)) (references_from (suc e) ds) (map (λ m. m.path.place) (mentions_of d))
-    (reference_places ds) (mentions_stand ws e (mentions_of d) (draft_stands ws e d h.0)) (all_stand ws (suc e) ds h.1)
+    (reference_places ds) (mentions_stand ws e here.0 (mentions_of d) here.1 (draft_stands ws e d h.0))
+    (all_stand ws (suc e) ds (λ i below. has i (omega (arith, below))) h.1)
+
+get_within : (ws : List Written) (i : ℕ) → i < length ws → (x : Written) × (slice_get ws i ≡ Some x)
+get_within [] i below = absurd (omega (arith, below))
+get_within (w ∷ ws) zero below = (w, refl)
+get_within (w ∷ ws) (suc i) below = get_within ws i (omega (arith, below))
 
 -- an element's own tokens are own places of it
 own_places : (ws : List Written) (e : ℕ) (x : Written) (ts : List Token) → slice_get ws e ≡ Some x
@@ -387,5 +409,15 @@ references_stand_at_own file language text d tokens tree p read =
       parts = (record { own = tt; specs = tt; bounds = tt; value = tt; result = tt; inner = tt }, tt);
       reading = record { names = tt; root = tt };
     } in
-    let h = walk_keeps_places (is_own_place ws) t text action.Group tree (start tokens) (omega arith) each.0 each.1 begun in
-    subst (λ (x : Data). OneByOne (StandsAtOwn ws) x.references x.reference_places) (sym same) (all_stand ws 0 w.elements h.parts)
+    let long : length w.elements ≡ length ws =
+    sym (length-map w.elements said) ∙ (ap length (drafts_written language text tokens tree) ∙ length-map ws (finished t text)) in
+    let lex : Lex language text tokens = read.lexed.1 in
+    let fits = tokens_fit language 0 lex.0 text [] lex.1 in
+    let all : tokens ≡ _ = lex.2 in
+    let numbers = subst (Every (λ (x : Token). HasNumber x.kind)) (sym all) fits.0 in
+    let at : IsAt (kinds_in tree ++ []) (start tokens) = record { kinds = sym read.derived.1 ∙ sym (append-nil (kinds_in tree)); numbers = numbers } in
+    let named_ = items_named t (name_claims language) text (grammar_of language) (names_hold language) tree (Inner (grammar_of language).start ∷ [])
+    action.Group [] (start tokens) read.derived.0 at in
+    let h = walk_keeps_places (is_own_place ws) t text action.Group tree (start tokens) (omega arith) each.0 each.1 named_ begun in
+    subst (λ (x : Data). OneByOne (StandsAtOwn ws) x.references x.reference_places) (sym same)
+    (all_stand ws 0 w.elements (λ i below. get_within ws i (omega (arith, below, long))) h.parts)

@@ -1,10 +1,8 @@
 -- Where references stand.
-use Rattle.std.specs.Prelude.{◌≡◌, ℕ, Bool, true, false, Some, List, map, slice_get}
+use Rattle.std.specs.Prelude.{◌≡◌, ℕ, Some, List, map, slice_get}
 use Rattle.linker_base.specs.Members.{IsMember}
 use Rattle.element_store.specs.declared.numbers.FileNo.{FileNo}
 use Rattle.element_store.specs.declared.outcome.Language.{Language}
-use Rattle.element_store.specs.declared.outcome.Role.{Role}
-use Rattle.element_store.specs.declared.outcome.Role.TheVariants as role
 use Rattle.element_store.specs.declared.records.Reference.{Reference}
 use Rattle.element_store.specs.Model.{Data}
 use Rattle.token_core.specs.declared.token.Token.{Token}
@@ -13,20 +11,13 @@ use Rattle.text_model.specs.Tables.{tables}
 use Rattle.text_model.specs.Profile.{IsRead, InProfile}
 use Rattle.text_laws.specs.Written.{Written, written, OneByOne}
 
--- whether a reference is that of an alias or an import
-abbrev pub is_of_item : Role → Bool
-is_of_item role.Alias = true
-is_of_item role.Import = true
-is_of_item other = false
-
 -- one of the element's own tokens begins at the place
 abbrev pub IsOwnPlace : Written → ℕ → Type 0
 IsOwnPlace w place = IsMember (map (λ t. t.from) w.own) place
 
--- the reference is an alias's or an import's, or stands at one of the own tokens of its element
+-- the reference stands at one of the own tokens of its element
 abbrev pub StandsAtOwn : List Written → Reference → ℕ → Type 0
-StandsAtOwn ws x place =
-    is_of_item x.role ≡ false → (w : Written) → slice_get ws x.context ≡ Some w → IsOwnPlace w place
+StandsAtOwn ws x place = (w : Written) × (slice_get ws x.context ≡ Some w) × IsOwnPlace w place
 
 -- each reference stands so
 abbrev pub ReferencesStandAtOwn : Type 0

@@ -39,7 +39,7 @@ pub fn items_are_written()
     ensures { ItemsAreWritten }
 {}
 
-/// A law: each reference but an alias's or an import's stands at one of the own tokens of its element.
+/// A law: each reference stands at one of the own tokens of its element.
 pub fn references_stand_at_own_tokens()
     ensures { ReferencesStandAtOwn }
 {}
