@@ -24,6 +24,8 @@ pub mod ImportLaws
 pub mod TextOrderLaws
 pub mod BuiltModel
 pub mod OutcomeLaws
+pub mod TreeOrPlace
+pub mod SomeOutcome
 pub mod WrittenWalk
 pub mod WrittenLaws
 pub mod WrittenItemLaws

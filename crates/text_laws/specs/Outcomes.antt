@@ -1,5 +1,5 @@
 -- A text has one outcome.
-use Rattle.std.specs.Prelude.{◌≡◌, ◌≢◌, ℕ, List}
+use Rattle.std.specs.Prelude.{◌≡◌, ◌≢◌, ◌⊎◌, ℕ, List}
 use Rattle.element_store.specs.declared.numbers.FileNo.{FileNo}
 use Rattle.element_store.specs.declared.outcome.Language.{Language}
 use Rattle.element_store.specs.Model.{Data}
@@ -24,3 +24,12 @@ abbrev pub OneFault : Type 0
 OneFault =
     (language : Language) (text : List ℕ) (a b : FileFault)
     → IsFaultOf language text a → IsFaultOf language text b → a ≢ NoMemory → b ≢ NoMemory → a ≡ b
+
+-- a text has a model, or a fault that isn't want of memory
+abbrev pub HasOutcome : FileNo → Language → List ℕ → Type 0
+HasOutcome file language text =
+    ((d : Data) × InProfile file language text d)
+    ⊎ ((fault : FileFault) × IsFaultOf language text fault × (fault ≢ NoMemory))
+
+abbrev pub SomeOutcome : Type 0
+SomeOutcome = (file : FileNo) (language : Language) (text : List ℕ) → HasOutcome file language text

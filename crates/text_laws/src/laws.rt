@@ -8,7 +8,7 @@ ghost use Rattle.element_store.specs.Condition.{IsModel};
 ghost use Rattle.text_model.specs.Profile.{InProfile};
 ghost use Rattle.text_laws.specs.OwnPlaces.{ReferencesStandAtOwn};
 ghost use Rattle.text_laws.specs.Events.{EventsMakeTheWalk};
-ghost use Rattle.text_laws.specs.Outcomes.{OneModel, ModelOrFault, OneFault};
+ghost use Rattle.text_laws.specs.Outcomes.{SomeOutcome, OneModel, ModelOrFault, OneFault};
 ghost use Rattle.text_laws.specs.Written.{ElementsAreWritten};
 ghost use Rattle.text_laws.specs.WrittenItems.{ItemsAreWritten};
 
@@ -19,9 +19,10 @@ pub fn built_models_are_models()
         → length text < 2 ^ 32 → InProfile file language text d → IsModel d }
 {}
 
-/// A law: a text with a language has one outcome. Two models of it are the same, no text has a model
-/// and a fault, and two faults are the same, want of memory aside.
+/// A law: a text with a language has exactly one outcome. It has a model or a fault; two models of it
+/// are the same, no text has a model and a fault, and two faults are the same, want of memory aside.
 pub fn one_outcome()
+    ensures some { SomeOutcome }
     ensures model { OneModel }
     ensures either { ModelOrFault }
     ensures fault { OneFault }
