@@ -31,3 +31,5 @@ pub mod WrittenLaws
 pub mod WrittenItemLaws
 pub mod ItemNames
 pub mod OwnPlaceLaws
+pub mod PendingWords
+pub mod WrittenStartLaws

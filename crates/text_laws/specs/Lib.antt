@@ -6,3 +6,4 @@ pub mod Outcomes
 pub mod Written
 pub mod WrittenItems
 pub mod OwnPlaces
+pub mod WrittenStarts

@@ -11,6 +11,7 @@ ghost use Rattle.text_laws.specs.Events.{EventsMakeTheWalk};
 ghost use Rattle.text_laws.specs.Outcomes.{SomeOutcome, OneModel, ModelOrFault, OneFault};
 ghost use Rattle.text_laws.specs.Written.{ElementsAreWritten};
 ghost use Rattle.text_laws.specs.WrittenItems.{ItemsAreWritten};
+ghost use Rattle.text_laws.specs.WrittenStarts.{StartsAreWritten};
 
 /// A law: the model of a text within the profile is a model, in a file of fewer than 4,294,967,296
 /// bytes.
@@ -38,6 +39,12 @@ pub fn elements_are_written()
 /// owner of each is the innermost element around it.
 pub fn items_are_written()
     ensures { ItemsAreWritten }
+{}
+
+/// A law: each member of a model stands where its item begins: at the visibility word directly before
+/// it, or else at its first token. The visibility of members and imports is what that word says.
+pub fn starts_are_written()
+    ensures { StartsAreWritten }
 {}
 
 /// A law: each reference stands at one of the own tokens of its element.
