@@ -17,6 +17,7 @@ use Rattle.ll_core.specs.declared.grammar.Symbol.TheVariants.{Terminal, Inner}
 use Rattle.ll_core.specs.Table.{Rule, Table}
 use Rattle.ll_core.specs.Derives.{Forest, Nothing, Token as Leaf, Node, IsDerivation}
 
+-- whether each byte is below 128
 abbrev pub are_ascii : List ℕ → Bool
 are_ascii [] = true
 are_ascii (b ∷ bs) = nat_lt b 128 && are_ascii bs
@@ -36,6 +37,7 @@ tokens_by go at tokens [] o = Some tokens
 tokens_by go at tokens (b ∷ bs) None = None
 tokens_by go at tokens (b ∷ bs) (Some f) = go (at + f.length) at (tokens ++ token_at f.kind at f.length)
 
+-- the same, begun at a place with these tokens before it
 abbrev pub all_tokens : Language → List ℕ → ℕ → ℕ → List Token → Option (List Token)
 all_tokens l text zero at tokens = None
 all_tokens l text (suc n) at tokens =
@@ -67,12 +69,14 @@ abbrev pub by_rule : (List Symbol → Bool) → ℕ → Option Rule → Bool
 by_rule below a None = false
 by_rule below a (Some r) = nat_eq r.left a && below r.right
 
+-- whether a forest is a derivation of the symbols
 abbrev pub derives : Table → Forest → List Symbol → Bool
 derives t Nothing [] = true
 derives t (Leaf j f) (Terminal k ∷ ss) = nat_eq j k && derives t f ss
 derives t (Node p below f) (Inner a ∷ ss) = by_rule (derives t below) a (slice_get t.rules p) && derives t f ss
 derives t f ss = false
 
+-- a tree that passes is a derivation
 pub derived_from : (t : Table) (f : Forest) (ss : List Symbol) → derives t f ss ≡ true → IsDerivation t ss f
 derived_from t Nothing [] e = tt
 derived_from t Nothing (Terminal k ∷ ss) e = absurd (cc)

@@ -5,9 +5,11 @@ use Rattle.token_core.specs.declared.token.TokenKind.{TokenKind}
 use Rattle.token_core.specs.declared.token.TokenKind.TheVariants.{Name, Integer, Comment, Sign, Word}
 use Rattle.ll_core.specs.Derives.{Forest, Nothing, Token as Leaf, Node}
 
+-- a token of a kind, from its first byte to behind its last
 abbrev pub token : TokenKind → ℕ → ℕ → Token
 token kind from upto = record { kind = kind; from = from; upto = upto }
 
+-- the tokens of the text
 unfoldable pub vehicles_tokens : List Token
 vehicles_tokens =
     token (Word 84) 0 7
@@ -93,6 +95,7 @@ vehicles_tokens =
     ∷ token (Sign 1) 449 450
     ∷ []
 
+-- and their tree, by the numbers of productions
 unfoldable pub vehicles_tree : Forest
 vehicles_tree =
     Node 0 (Node 132 (Node 1 (Node 135 Nothing (Node 72 (Node 18 (Leaf 344 (Node 11 (Node 145 Nothing (Node 146 (Leaf 0 Nothing) Nothing)) (Node 20

@@ -120,6 +120,7 @@ text_order : (file : FileNo) (language : Language) (text : List ℕ) (tokens : L
 text_order file language text tokens f read numbers rise = ordered_of file (tables language) (modes_of language)
     (grammar_of language) (modes_hold language) language text tokens f read.derived numbers rise
 
+-- the model of a text that is read and within the limits is a model
 pub built_is_model : (file : FileNo) (language : Language) (text : List ℕ) (tokens : List Token) (f : Forest) → length text < 2 ^ 32
     → IsRead language text tokens f
     → limits (drafts_of language text tokens f) ≡ [] → IsModel (model_of file language (drafts_of language text tokens f))

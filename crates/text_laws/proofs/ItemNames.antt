@@ -54,6 +54,7 @@ pub record NameClaims : Type 0 where
   pub brings : List ℕ
   pub keeps : List ℕ
 
+-- for QName, and for what may stand behind the name of a QName or an import
 abbrev pub name_claims : Language → NameClaims
 name_claims Kerml = record {
   brings = kerml_symbols.QName ∷ [];
@@ -66,6 +67,7 @@ name_claims Sysml = record {
       ∷ sysml_symbols.MaybeColonColonStarStar ∷ [];
 }
 
+-- whether the number is among these
 abbrev pub is_among : List ℕ → ℕ → Bool
 is_among [] b = false
 is_among (x ∷ xs) b = nat_eq x b || is_among xs b
@@ -276,11 +278,13 @@ walk_named t c text g ok (Branch p below f) (Inner i ∷ ss) a ks w s d at h =
 
 -- Each alias and each import of a forest reads a name.
 
+-- an alias or an import leaves a name
 abbrev pub ItemNamed : Action → List DraftNode → Type 0
 ItemNamed (action.Take taking.Alias) ns = HasName ns
 ItemNamed (action.Take taking.Import) ns = HasName ns
 ItemNamed other ns = Unit {0}
 
+-- and so does each of a forest
 abbrev pub ItemsNamed : Tables → List ℕ → Action → Forest → Walk → Type 0
 ItemsNamed t text a Nothing w = Unit {0}
 ItemsNamed t text a (Leaf k f) w = ItemsNamed t text a f (taken t text a w)

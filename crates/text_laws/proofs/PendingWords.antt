@@ -70,6 +70,7 @@ pub record PendingClaims : Type 0 where
   pub outs : List ℕ
   pub ins : List ℕ
 
+-- for what holds a visibility word, and for what may stand directly behind one
 abbrev pub pending_claims : Language → PendingClaims
 pending_claims Kerml = record {
   modes = modes_of Kerml;
@@ -312,6 +313,7 @@ symbol_pending t c b a ss w v before after s r X ok is h on =
 
 -- The walk.
 
+-- so does each item of a forest
 abbrev pub ItemsPending : Tables → List ℕ → Action → Option Token → Forest → Walk → Type 0
 ItemsPending t text a before Nothing w = Unit {0}
 ItemsPending t text a before (Leaf k f) w = ItemsPending t text a (last_in before (k ∷ []) w.rest) f (taken t text a w)

@@ -167,6 +167,7 @@ taken_goes t text a (x ∷ ts) w = record {
   current = (alike_from t text a (x ∷ ts) w).current;
 }
 
+-- one token fewer is to come
 pub taken_rest : (t : Tables) (text : List ℕ) (a : Action) (ts : List Token) (w : Walk) → ts ≡ w.rest → (taken_from t text a ts w).rest ≡ drop 1 ts
 taken_rest t text a [] w is = sym is
 taken_rest t text a (x ∷ ts) w is = rest_meant text a (meaning_of t x.kind) x (record w { rest = ts })

@@ -20,6 +20,7 @@ pub record Stock : Type 0 where
   pub items : List Item
   pub inner : List Role
 
+-- of a draft
 abbrev pub stock : Draft → Stock
 stock d = record { owner = d.owner; items = d.items; inner = map (λ m. m.role) d.inner }
 
@@ -29,30 +30,37 @@ pub record Held : Type 0 where
   pub place : ℕ
   pub role : Role
 
+-- the name that an alias holds
 abbrev pub held_target : ℕ → DraftTarget → List Held
 held_target owner (Owned e) = []
 held_target owner (Alias k) = record { owner = owner; place = k; role = role.Alias } ∷ []
 
+-- and a member, if it is one
 abbrev pub held_member : Option DraftMember → List Held
 held_member None = []
 held_member (Some m) = held_target m.owner m.target
 
+-- and an import
 abbrev pub held_import : Option DraftImport → List Held
 held_import None = []
 held_import (Some i) = record { owner = i.owner; place = i.at; role = role.Import } ∷ []
 
+-- and an item
 abbrev pub held : List DraftMember → List DraftImport → Item → List Held
 held ms is (item.Member m) = held_member (slice_get ms m)
 held ms is (item.Import i) = held_import (slice_get is i)
 
+-- names with these roles, the first at this place
 abbrev pub held_from : ℕ → ℕ → List Role → List Held
 held_from e n [] = []
 held_from e n (r ∷ rs) = record { owner = e; place = n; role = r } ∷ held_from e (suc n) rs
 
+-- the item's number is in range
 abbrev pub IsWithin : ℕ → ℕ → Item → Type 0
 IsWithin ms is (item.Member m) = m < ms
 IsWithin ms is (item.Import i) = i < is
 
+-- so is each
 abbrev pub AreWithin : ℕ → ℕ → List Item → Type 0
 AreWithin ms is [] = Unit {0}
 AreWithin ms is (i ∷ items) = IsWithin ms is i × AreWithin ms is items
@@ -70,10 +78,12 @@ abbrev pub EachFrom : {A : Type 0} → (ℕ → A → Type 0) → ℕ → List A
 EachFrom P n [] = Unit {0}
 EachFrom P n (x ∷ xs) = P n x × EachFrom P (suc n) xs
 
+-- the owners of the members have lower numbers
 abbrev pub MembersBelow : ℕ → List DraftMember → Type 0
 MembersBelow n [] = Unit {0}
 MembersBelow n (m ∷ ms) = (m.owner < n) × MembersBelow n ms
 
+-- and so have those of the imports
 abbrev pub ImportsBelow : ℕ → List DraftImport → Type 0
 ImportsBelow n [] = Unit {0}
 ImportsBelow n (i ∷ is) = (i.owner < n) × ImportsBelow n is
@@ -83,17 +93,21 @@ pub record Owner : Type 0 where
   pub element : ℕ
   pub owner : Option ℕ
 
+-- the element that a member owns, with its owner
 abbrev pub owner_by : DraftTarget → ℕ → List Owner
 owner_by (Owned e) owner = record { element = e; owner = Some owner } ∷ []
 owner_by (Alias k) owner = []
 
+-- all that members own, in order
 abbrev pub owners_by : List DraftMember → List Owner
 owners_by ms = flat_map (λ m. owner_by m.target m.owner) ms
 
+-- the owners that elements have, from this number on
 abbrev pub owners_from : ℕ → List Stock → List Owner
 owners_from n [] = []
 owners_from n (s ∷ ss) = record { element = n; owner = s.owner } ∷ owners_from (suc n) ss
 
+-- owners and items agree with the members and imports
 pub record AreCoherent (ss : List Stock) (ms : List DraftMember) (is : List DraftImport) (now : ℕ) : Type 0 where
   pub current : now < length ss
   pub owners : record { element = 0; owner = None } ∷ owners_by ms ≡ owners_from 0 ss
@@ -101,5 +115,6 @@ pub record AreCoherent (ss : List Stock) (ms : List DraftMember) (is : List Draf
   pub members : MembersBelow (length ss) ms
   pub imports : ImportsBelow (length ss) is
 
+-- they do in a walk
 abbrev pub IsCoherent : Walk → Type 0
 IsCoherent w = AreCoherent (map stock w.elements) w.members w.imports w.current

@@ -31,5 +31,6 @@ HasOutcome file language text =
     ((d : Data) × InProfile file language text d)
     ⊎ ((fault : FileFault) × IsFaultOf language text fault × (fault ≢ NoMemory))
 
+-- each text has an outcome
 abbrev pub SomeOutcome : Type 0
 SomeOutcome = (file : FileNo) (language : Language) (text : List ℕ) → HasOutcome file language text

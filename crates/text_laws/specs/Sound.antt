@@ -13,6 +13,7 @@ use Rattle.text_model.specs.Numbering.{mentions_of, numbered_in, references_from
 use Rattle.text_laws.specs.Coherent.{IsCoherent}
 use Rattle.text_laws.specs.Fits.{Every, DraftFits}
 
+-- the first is of the root's kind
 abbrev pub HasRootKind : List Draft → Type 0
 HasRootKind [] = ⊥
 HasRootKind (d ∷ ds) = d.kind ≡ Root

@@ -36,6 +36,7 @@ pub record Written : Type 0 where
 abbrev pub behind : Forest → List Token → List Token
 behind f ts = drop (length (kinds_in f)) ts
 
+-- none, where a production is an element's
 abbrev pub unless_element : Action → List Token → List Token
 unless_element (Element k) ts = []
 unless_element other ts = ts
@@ -70,6 +71,7 @@ elements_in t around n (Node p below rest) ts =
 abbrev pub written : Tables → Forest → List Token → List Written
 written t f ts = record { owner = None; kind = Root; own = own_tokens t f ts } ∷ elements_in t 0 1 f ts
 
+-- what the tokens mean
 abbrev pub means : Tables → List Token → List Meaning
 means t ts = map (λ x. meaning_of t x.kind) ts
 
@@ -80,22 +82,24 @@ kind_said k (meaning.Kind j ∷ ms) = kind_said j ms
 kind_said k (meaning.Def ∷ ms) = kind_said (definition_of k) ms
 kind_said k (other ∷ ms) = kind_said k ms
 
--- the last direction, and the last word that says which part of a calculation or requirement it is
+-- the last direction among them
 abbrev pub direction_said : Direction → List Meaning → Direction
 direction_said d [] = d
 direction_said d (meaning.Direction way ∷ ms) = direction_said way ms
 direction_said d (other ∷ ms) = direction_said d ms
 
+-- the last word that says which part of a calculation or requirement it is
 abbrev pub part_said : PartOf → List Meaning → PartOf
 part_said p [] = p
 part_said p (meaning.PartOf part ∷ ms) = part_said part ms
 part_said p (other ∷ ms) = part_said p ms
 
--- what the last comment says
+-- what a comment says, or what was said before
 abbrev pub said_by : Meaning → List ℕ → Option (List ℕ) → Option (List ℕ)
 said_by meaning.Comment bytes body = Some (comment_meaning bytes)
 said_by other bytes body = body
 
+-- what the last comment among tokens says
 abbrev pub body_said : Tables → List ℕ → Option (List ℕ) → List Token → Option (List ℕ)
 body_said t text body [] = body
 body_said t text body (x ∷ xs) = body_said t text (said_by (meaning_of t x.kind) (bytes_of text x) body) xs

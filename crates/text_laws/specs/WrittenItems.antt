@@ -20,6 +20,7 @@ pub record WrittenMember : Type 0 where
   pub owner : ℕ
   pub element : Option ℕ
 
+-- one, where a production is an element's
 abbrev pub makes_element : Action → ℕ
 makes_element (Element k) = 1
 makes_element other = 0
@@ -31,14 +32,17 @@ count_elements t (Leaf k f) = count_elements t f
 count_elements t (Node p below f) =
     makes_element (action_at t p) + count_elements t below + count_elements t f
 
+-- the member that owns a production's element
 abbrev pub element_member : Action → ℕ → ℕ → List WrittenMember
 element_member (Element k) around n = record { owner = around; element = Some n } ∷ []
 element_member other around n = []
 
+-- the member that is a production's alias
 abbrev pub alias_of : Action → ℕ → List WrittenMember
 alias_of (Take taking.Alias) around = record { owner = around; element = None } ∷ []
 alias_of other around = []
 
+-- the element around a production's import
 abbrev pub import_owner : Action → ℕ → List ℕ
 import_owner (Take taking.Import) around = around ∷ []
 import_owner other around = []
@@ -61,10 +65,12 @@ importers_in t around n (Node p below f) =
     importers_in t (inner_owner a around n) (n + makes_element a) below
     ++ (import_owner a around ++ importers_in t around (n + (makes_element a + count_elements t below)) f)
 
+-- the element of a target
 abbrev pub owned_by : Target → Option ℕ
 owned_by (target.Owned e) = Some e
 owned_by (target.Alias r) = None
 
+-- a member of a model, as far as it is written so
 abbrev pub as_written : Member → WrittenMember
 as_written m = record { owner = m.owner; element = owned_by m.target }
 
@@ -73,6 +79,7 @@ pub record HasWrittenItems (t : Tables) (f : Forest) (d : Data) : Type 0 where
   pub members : map as_written d.members ≡ members_in t 0 1 f
   pub imports : map (λ i. i.owner) d.imports ≡ importers_in t 0 1 f
 
+-- so are those of every text
 abbrev pub ItemsAreWritten : Type 0
 ItemsAreWritten =
     (file : FileNo) (language : Language) (text : List ℕ) (d : Data) (tokens : List Token) (tree : Forest)

@@ -30,6 +30,7 @@ abbrev pub seen_by : Meaning → Token → Option Seen
 seen_by (meaning.Visibility v) x = Some (record { place = x.from; visibility = v })
 seen_by other x = None
 
+-- the visibility word that stands directly before
 abbrev pub seen_before : Tables → Option Token → Option Seen
 seen_before t None = None
 seen_before t (Some x) = seen_by (meaning_of t x.kind) x
@@ -46,14 +47,17 @@ start_of t before ts = record {
   visibility = begun_visibility (seen_before t before);
 }
 
+-- where a production is an element's
 abbrev pub if_element : Action → Start → List Start
 if_element (Element k) s = s ∷ []
 if_element other s = []
 
+-- where it is an alias's
 abbrev pub if_alias : Action → Start → List Start
 if_alias (Take taking.Alias) s = s ∷ []
 if_alias other s = []
 
+-- where it is an import's
 abbrev pub if_import : Action → Start → List Start
 if_import (Take taking.Import) s = s ∷ []
 if_import other s = []
@@ -84,6 +88,7 @@ pub record HasWrittenStarts (t : Tables) (f : Forest) (tokens : List Token) (d :
   pub imports : map (λ i. i.visibility) d.imports
       ≡ map (λ s. unwrap_or s.visibility Private) (import_starts t None f tokens)
 
+-- so it is of every text
 abbrev pub StartsAreWritten : Type 0
 StartsAreWritten =
     (file : FileNo) (language : Language) (text : List ℕ) (d : Data) (tokens : List Token) (tree : Forest)
