@@ -1,7 +1,72 @@
+ghost use Rattle.std.specs.Prelude.{◌≡◌, ◌∷◌, ◌++◌, [], OnOk};
+ghost use Rattle.std.specs.Option.{option_to_list};
+
 use element_store::{
     BinaryOp, Items, Kind, Marks, Name, Role, Segments, Text, UnaryOp, Visibility,
 };
-use linker_base::Listing;
+use linker_base::NoMemory;
+use std::alloc::Global;
+use std::marker::Model;
+
+/// A list that grows and shrinks at its end, and can be taken apart. Contracts see the list of its
+/// items, in order. Many have one item, for which there is room for one.
+#[derive(Drop)]
+pub struct Row<T> {
+    items: Vec<T>,
+}
+
+impl<T> Model for Row<T> {
+    ghost use Rattle.std.specs.Prelude.{List};
+
+    ghost Value = { List T };
+
+    ghost view = { λ r. r.items.items };
+}
+
+impl<T> Row<T> {
+    /// An empty row, which takes no memory.
+    pub fn new(alloc: Global) -> Self
+        ensures { result ≡ [] }
+    {
+        Row {
+            items: Vec::new(alloc),
+        }
+    }
+
+    /// Lends the items, in order.
+    pub fn as_slice(&self) -> &[T]
+        ensures { result.now ≡ self.now }
+    {
+        &self.items
+    }
+
+    /// The items by themselves, in order.
+    pub fn into_vec(self) -> Vec<T>
+        ensures { result.items ≡ self }
+    {
+        self.items
+    }
+
+    /// Takes the last item.
+    pub fn pop(&mut self) -> Option<T>
+        ensures { self.old ≡ self.new ++ option_to_list result }
+    {
+        self.items.pop()
+    }
+}
+
+impl<T: Drop> Row<T> {
+    /// Appends one item.
+    pub fn push(&mut self, item: T) -> Result<(), NoMemory>
+        ensures { OnOk result (self.new ≡ self.old ++ item ∷ []) }
+    {
+        if self.items.is_empty() {
+            self.items.reserve_exact(1)?;
+        }
+        self.items.push(item)?;
+        Ok(())
+    }
+}
 
 /// A qualified name or chain as it is read, before it is a reference.
 #[derive(Drop)]
@@ -57,7 +122,7 @@ pub struct DraftNode {
 pub struct DraftExpr {
     /// The place of its first token.
     pub start: u32,
-    pub nodes: Listing<DraftNode>,
+    pub nodes: Row<DraftNode>,
 }
 
 /// An element, whose references stand in lists of its own.
@@ -74,17 +139,17 @@ pub struct Draft {
     /// The locale of a comment.
     pub locale: Option<Text>,
     /// The names read in it directly.
-    pub own: Listing<Path>,
+    pub own: Row<Path>,
     /// Those of its specialisations.
-    pub specs: Listing<Mention>,
+    pub specs: Row<Mention>,
     /// The bounds of its multiplicity, the upper one last.
-    pub bounds: Listing<DraftNode>,
+    pub bounds: Row<DraftNode>,
     /// The expression of its value.
     pub value: Option<DraftExpr>,
     /// The expression that its body ends with.
     pub result: Option<DraftExpr>,
     /// Those of the aliases and imports of its body.
-    pub inner: Listing<Mention>,
+    pub inner: Row<Mention>,
     /// Its members and imports.
     pub items: Items,
 }
@@ -142,7 +207,7 @@ pub struct Seen {
 /// What was read of the innermost element, list or expression that is open.
 #[derive(Drop)]
 pub struct Reading {
-    pub nodes: Listing<DraftNode>,
+    pub nodes: Row<DraftNode>,
     /// A sign that waits for its last operand.
     pub operator: Option<Waiting>,
     /// The place of the expression's first token.
