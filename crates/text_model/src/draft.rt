@@ -1,4 +1,4 @@
-ghost use Rattle.std.specs.Prelude.{◌≡◌, ◌∷◌, ◌++◌, [], OnOk};
+ghost use Rattle.std.specs.Prelude.{◌≡◌, ◌∷◌, ◌++◌, [], None, OnOk};
 ghost use Rattle.std.specs.Option.{option_to_list};
 
 use element_store::{
@@ -49,7 +49,8 @@ impl<T> Row<T> {
 
     /// Takes the last item.
     pub fn pop(&mut self) -> Option<T>
-        ensures { self.old ≡ self.new ++ option_to_list result }
+        ensures rest { self.old ≡ self.new ++ option_to_list result }
+        ensures none { result ≡ None → self.old ≡ [] }
     {
         self.items.pop()
     }
