@@ -1,0 +1,5 @@
+mod Events
+mod Laws
+mod Known
+mod Plain
+mod Heard

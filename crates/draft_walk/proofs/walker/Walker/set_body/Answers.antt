@@ -1,0 +1,11 @@
+use Rattle.std.proofs.Common.{◌≡◌, refl, ap, ◌∙◌}
+use Rattle.text_model.specs.Walk.{changed}
+use Rattle.draft_walk.proofs.Laws.{changed_is}
+use Rattle.std.specs.Prelude.{Some}
+use Rattle.draft_walk.proofs.walker.Walker.set_body.Goals as goal
+
+pub returns : goal.returns
+returns c =
+    let now = c.index_mut.result.now in
+    changed_is _ (λ d. record d { body = Some c.args.body }) now _ c.self.invariant c.index_mut.ensures.value (ap (λ b. record now { body = b }) c.put.ensures)
+    ∙ ap (changed (λ d. record d { body = Some c.args.body })) c.self.view_is
