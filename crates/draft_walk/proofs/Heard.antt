@@ -30,7 +30,8 @@ heard_more s p q t u e h given is known = record {
 }
 
 -- the walk over the tree that was told
-pub walk_heard : (s : Source) (p : Parsing) (t : Telling) (f : Forest) → t ≡ run (tables s.language) s.text.now (begun s.tokens.now) p.given → preorder f ≡ p.given
+pub walk_heard : (s : Source) (p : Parsing) (t : Telling) (f : Forest) → t ≡ run (tables s.language) s.text.now (begun s.tokens.now) p.given
+    → preorder f ≡ p.given
     → t.now ≡ drafts_of s.language s.text.now s.tokens.now f
 walk_heard s p t f heard told_ =
     ap (λ (r : Telling). r.now) (heard ∙ (sym (ap (run (tables s.language) s.text.now (begun s.tokens.now)) told_)
@@ -62,7 +63,8 @@ kinds_longer (t ∷ ts) zero below = omega arith
 kinds_longer (t ∷ ts) (suc n) below = let rest : n < length (kinds_of ts) = kinds_longer ts n (omega (arith, below)) in omega (arith, rest)
 
 -- where the parser stops at a token
-pub place_here : (g h : Table) (ks : List ℕ) (ts : List Token) (n k : ℕ) (d : Token) → n < length ts → h ≡ g → ks ≡ take n (kinds_of ts) → k ≡ terminal (get_or ts n d).kind
+pub place_here : (g h : Table) (ks : List ℕ) (ts : List Token) (n k : ℕ) (d : Token) → n < length ts → h ≡ g → ks ≡ take n (kinds_of ts)
+    → k ≡ terminal (get_or ts n d).kind
     → StopsAt h ks (Some k) → IsSyntaxPlace g (kinds_of ts) n
 place_here g h ks ts n k d below same shifted is stops =
     place_at g (kinds_of ts) n 0 (kinds_longer ts n below)

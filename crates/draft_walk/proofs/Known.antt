@@ -103,7 +103,8 @@ meant_rest text a (meaning.Operator o) t w = operator_rest a o t.from w
 abbrev Know : List ℕ → List Token → Type 0
 Know text ts = AreTokensOf text ts
 
-taken_known : (tables : Tables) (text : List ℕ) (a : Action) (ts : List Token) (w : Walk) → Know text ts → Know text w.rest → Know text (taken_from tables text a ts w).rest
+taken_known : (tables : Tables) (text : List ℕ) (a : Action) (ts : List Token) (w : Walk) → Know text ts → Know text w.rest
+    → Know text (taken_from tables text a ts w).rest
 taken_known tables text a [] w all own = own
 taken_known tables text a (t ∷ ts) w all own =
     subst (λ (us : List Token). Know text us) (sym (meant_rest text a (meaning_of tables t.kind) t (record w { rest = ts }))) (λ u member. all u (inr member))

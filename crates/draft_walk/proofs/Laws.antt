@@ -105,24 +105,57 @@ inner_is (x ∷ ds) zero d below at = ap (λ (y : Draft). length y.inner) at
 inner_is (x ∷ ds) (suc c) d below at = inner_is ds c d (omega (arith, below)) at
 
 -- an element that begins, where nothing is read
-pub element_entered : (w v u : Walk) (k : Kind) (n : ℕ) (d : Draft) (m : DraftMember) → w.reading ≡ fresh → v ≡ changed (with_item (item.Member n)) w → n ≡ length w.members
+pub element_entered : (w v u : Walk) (k : Kind) (n : ℕ) (d : Draft) (m : DraftMember) → w.reading ≡ fresh → v ≡ changed (with_item (item.Member n)) w
+    → n ≡ length w.members
     → u ≡ record v { elements = v.elements ++ d ∷ []; members = v.members ++ m ∷ []; current = length v.elements; waiting = None }
     → d ≡ draft k (Some m.owner) → m ≡ owned_member w → u ≡ entered (Element k) w
 element_entered w v u k n d m read listed number opened drafted owned =
     opened
     ∙ (ap (λ (x : Walk). record x { elements = x.elements ++ d ∷ []; members = x.members ++ m ∷ []; current = length x.elements; waiting = None }) listed
-    ∙ (ap (λ j. record w { elements = adjusted w.current (with_item (item.Member j)) w.elements ++ d ∷ []; members = w.members ++ m ∷ []; current = length (adjusted w.current (with_item (item.Member j)) w.elements); waiting = None }) number
-    ∙ (ap (λ x. record w { elements = adjusted w.current (with_item (item.Member (length w.members))) w.elements ++ x ∷ []; members = w.members ++ m ∷ []; current = length (adjusted w.current (with_item (item.Member (length w.members))) w.elements); waiting = None }) drafted
-    ∙ (ap (λ x. record w { elements = adjusted w.current (with_item (item.Member (length w.members))) w.elements ++ draft k (Some x.owner) ∷ []; members = w.members ++ x ∷ []; current = length (adjusted w.current (with_item (item.Member (length w.members))) w.elements); waiting = None }) owned
-    ∙ (ap (λ c. record w { elements = adjusted w.current (with_item (item.Member (length w.members))) w.elements ++ draft k (Some w.current) ∷ []; members = w.members ++ owned_member w ∷ []; current = c; waiting = None })
+    ∙ (ap (λ j. record w {
+      elements = adjusted w.current (with_item (item.Member j)) w.elements ++ d ∷ [];
+      members = w.members ++ m ∷ [];
+      current =
+          length (adjusted w.current (with_item (item.Member j)) w.elements);
+      waiting = None;
+    }) number
+    ∙ (ap (λ x. record w {
+      elements = adjusted w.current (with_item (item.Member (length w.members))) w.elements ++ x ∷ [];
+      members = w.members ++ m ∷ [];
+      current = length (adjusted w.current (with_item (item.Member (length w.members))) w.elements);
+      waiting = None;
+    }) drafted
+    ∙ (ap (λ x. record w {
+      elements = adjusted w.current (with_item (item.Member (length w.members))) w.elements ++ draft k (Some x.owner) ∷ [];
+      members =
+          w.members ++ x ∷ [];
+      current = length (adjusted w.current (with_item (item.Member (length w.members))) w.elements);
+      waiting = None;
+    }) owned
+    ∙ (ap (λ c. record w {
+      elements = adjusted w.current (with_item (item.Member (length w.members))) w.elements ++ draft k (Some w.current) ∷ [];
+      members =
+          w.members ++ owned_member w ∷ [];
+      current = c;
+      waiting = None;
+    })
     (length_adjusted w.current (with_item (item.Member (length w.members))) w.elements)
-    ∙ ap (λ r. record w { elements = adjusted w.current (with_item (item.Member (length w.members))) w.elements ++ draft k (Some w.current) ∷ []; members = w.members ++ owned_member w ∷ []; current = length w.elements; waiting = None; reading = r }) read)))))
+    ∙ ap (λ r. record w {
+      elements = adjusted w.current (with_item (item.Member (length w.members))) w.elements ++ draft k (Some w.current) ∷ [];
+      members =
+          w.members ++ owned_member w ∷ [];
+      current = length w.elements;
+      waiting = None;
+      reading = r;
+    }) read)))))
 
 -- whether nodes have a sort, one more
-pub has_take : (t : What → Bool) (xs : List DraftNode) (i : ℕ) (d : DraftNode) → i < length xs → has_what t (take (suc i) xs) ≡ (has_what t (take i xs) || t (get_or xs i d).what)
+pub has_take : (t : What → Bool) (xs : List DraftNode) (i : ℕ) (d : DraftNode) → i < length xs
+    → has_what t (take (suc i) xs) ≡ (has_what t (take i xs) || t (get_or xs i d).what)
 has_take t [] i d below = absurd (omega (arith, below))
 has_take t (x ∷ xs) zero d below = or_false (t x.what)
-has_take t (x ∷ xs) (suc i) d below = ap (λ b. t x.what || b) (has_take t xs i d (omega (arith, below))) ∙ or_assoc (t x.what) (has_what t (take i xs)) (t (get_or xs i d).what)
+has_take t (x ∷ xs) (suc i) d below = ap (λ b. t x.what || b) (has_take t xs i d (omega (arith, below)))
+    ∙ or_assoc (t x.what) (has_what t (take i xs)) (t (get_or xs i d).what)
 
 -- the first of names, one node more
 first_joined : (ps qs : List Path) (w : What) → qs ≡ name_in w → first_path (ps ++ qs) ≡ or_path (first_path ps) w
@@ -169,5 +202,6 @@ pub item_copied : {A : Type 0} (xs : List A) (i : ℕ) (o : Option (Bor A)) → 
 item_copied xs i None h = slice_get_past xs i h.3
 item_copied xs i (Some x) h = slice_get_read xs (length xs) i x.now refl h.3.0 h.1
 
-pub has_next : (t : What → Bool) (xs : List DraftNode) (i : ℕ) (d : DraftNode) → i < length xs → has_what t (take (i + 1) xs) ≡ (has_what t (take i xs) || t (get_or xs i d).what)
+pub has_next : (t : What → Bool) (xs : List DraftNode) (i : ℕ) (d : DraftNode) → i < length xs
+    → has_what t (take (i + 1) xs) ≡ (has_what t (take i xs) || t (get_or xs i d).what)
 has_next t xs i d below = let e : i + 1 ≡ suc i = omega arith in ap (λ k. has_what t (take k xs)) e ∙ has_take t xs i d below

@@ -49,6 +49,7 @@ pub record IsDrafted (s : Source) (d : Drafts) : Type 0 where
 -- the token at which the text stops beginning any text of the language, or want of memory
 abbrev pub IsTreeFault : Source → FileFault → Type 0
 IsTreeFault s (Syntax place) =
-    (n : ℕ) × IsSyntaxPlace (grammar_of s.language) (kinds_of s.tokens.now) n × (place ≡ token_place s.text.now s.tokens.now n)
+    (n : ℕ) × IsSyntaxPlace (grammar_of s.language) (kinds_of s.tokens.now) n
+    × (place ≡ token_place s.text.now s.tokens.now n)
 IsTreeFault s NoMemory = Unit {0}
 IsTreeFault s other = ⊥

@@ -103,7 +103,8 @@ impl<'a> Walker<'a> {
 
     /// The element that is open ends.
     pub fn leave_element(&mut self, saved: Saved) -> Result<(), NoMemory>
-        ensures { OnOk result (self.new ≡ left (action.Element kind.Root) (frame_of saved) self.old) }
+        ensures { OnOk result (self.new
+            ≡ left (action.Element kind.Root) (frame_of saved) self.old) }
     {
         let reading = self.replace_reading(saved.reading);
         let names = nodes::own_names(self.alloc, reading.nodes.into_vec())?;
@@ -131,7 +132,8 @@ impl<'a> Walker<'a> {
 
     /// The nodes read are the value of the element that is open.
     fn set_value(&mut self, reading: Reading)
-        ensures { self.new ≡ changed (λ d. record d { value = Some (expression reading) }) self.old }
+        ensures { self.new ≡ changed
+            (λ d. record d { value = Some (expression reading) }) self.old }
     {
         let value = expression(reading);
         put(&mut self.elements[self.current].value, Some(value));
@@ -139,7 +141,8 @@ impl<'a> Walker<'a> {
 
     /// The nodes read are the result of the element that is open.
     fn set_result(&mut self, reading: Reading)
-        ensures { self.new ≡ changed (λ d. record d { result = Some (expression reading) }) self.old }
+        ensures { self.new ≡ changed
+            (λ d. record d { result = Some (expression reading) }) self.old }
     {
         let value = expression(reading);
         put(&mut self.elements[self.current].result, Some(value));
@@ -147,7 +150,8 @@ impl<'a> Walker<'a> {
 
     /// How many names of aliases and imports the element that is open has.
     fn inner_count(&self) -> Result<u32, NoMemory>
-        ensures { IfOk result (λ count. count ≡ length (inner_at self.now.elements self.now.current)) }
+        ensures { IfOk result (λ count. count
+            ≡ length (inner_at self.now.elements self.now.current)) }
     {
         let count = number_of(self.elements[self.current].inner.as_slice().len())?;
         Ok(count)
@@ -163,7 +167,8 @@ impl<'a> Walker<'a> {
 
     /// An alias ends.
     fn add_alias(&mut self, begun: Begun, reading: Reading) -> Result<(), NoMemory>
-        ensures { OnOk result (self.new ≡ given taking.Alias (begun_frame begun.place begun.visibility) reading self.old) }
+        ensures { OnOk result (self.new
+            ≡ given taking.Alias (begun_frame begun.place begun.visibility) reading self.old) }
     {
         let member = DraftMember {
             owner: number_of(self.current)?,
@@ -182,7 +187,8 @@ impl<'a> Walker<'a> {
 
     /// An import ends.
     fn add_import(&mut self, begun: Begun, reading: Reading) -> Result<(), NoMemory>
-        ensures { OnOk result (self.new ≡ given taking.Import (begun_frame begun.place begun.visibility) reading self.old) }
+        ensures { OnOk result (self.new
+            ≡ given taking.Import (begun_frame begun.place begun.visibility) reading self.old) }
     {
         let ending = nodes::read_ending(reading.nodes.as_slice());
         let path = nodes::path_or(self.alloc, begun.place, reading.nodes.into_vec())?;
@@ -203,7 +209,8 @@ impl<'a> Walker<'a> {
 
     /// What was read goes to where it belongs.
     fn give(&mut self, sort: Taking, begun: Begun, reading: Reading) -> Result<(), NoMemory>
-        ensures { OnOk result (self.new ≡ given sort (begun_frame begun.place begun.visibility) reading self.old) }
+        ensures { OnOk result (self.new
+            ≡ given sort (begun_frame begun.place begun.visibility) reading self.old) }
     {
         match sort {
             Taking::Subclass => self.specialise(Role::Subclass, reading)?,

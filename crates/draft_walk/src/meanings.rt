@@ -74,14 +74,16 @@ impl<'a> Walker<'a> {
 
     /// The element that is open has this direction.
     fn set_direction(&mut self, way: Direction)
-        ensures { self.new ≡ changed (λ d. record d { marks = record d.marks { direction = way } }) self.old }
+        ensures { self.new ≡ changed
+            (λ d. record d { marks = record d.marks { direction = way } }) self.old }
     {
         self.elements[self.current].marks.direction = way;
     }
 
     /// The element that is open is this part of the one around it.
     fn set_part(&mut self, part: PartOf)
-        ensures { self.new ≡ changed (λ d. record d { marks = record d.marks { part_of = part } }) self.old }
+        ensures { self.new ≡ changed
+            (λ d. record d { marks = record d.marks { part_of = part } }) self.old }
     {
         self.elements[self.current].marks.part_of = part;
     }
@@ -109,14 +111,18 @@ impl<'a> Walker<'a> {
 
     /// A visibility word waits for its item.
     fn see(&mut self, place: u32, visibility: Visibility)
-        ensures { self.new ≡ record self.old { waiting = Some (record { place = place; visibility = visibility }) } }
+        ensures { self.new ≡ record self.old {
+          waiting =
+              Some (record { place = place; visibility = visibility });
+        } }
     {
         self.waiting = Some(Seen { place, visibility });
     }
 
     /// An integer is read; one above the greatest is noted, and 0.
     pub fn take_integer(&mut self, value: Option<i64>, place: u32) -> Result<(), NoMemory>
-        ensures { OnOk result ((n : ℕ) → SomeIff value (n < 2 ^ 63) (pos n) → self.new ≡ meant_integer n place self.old) }
+        ensures { OnOk result ((n : ℕ) → SomeIff value (n < 2 ^ 63) (pos n)
+            → self.new ≡ meant_integer n place self.old) }
     {
         if value.is_none() {
             self.large.push(place)?;
@@ -127,7 +133,8 @@ impl<'a> Walker<'a> {
 
     /// A name begins, at a `$` that waits for it or by itself.
     fn begin_name(&mut self, place: u32, name: Name) -> Result<(), NoMemory>
-        ensures { OnOk result ((t : Token) → t.from ≡ place → self.new ≡ reads (begins_name t name) self.old) }
+        ensures { OnOk result ((t : Token) → t.from ≡ place
+            → self.new ≡ reads (begins_name t name) self.old) }
     {
         let mut path = Segments::new(self.alloc);
         path.push(name)?;
@@ -149,7 +156,8 @@ impl<'a> Walker<'a> {
 
     /// A name is read, below a production with this action.
     pub fn take_name(&mut self, action: Action, place: u32, name: Name) -> Result<(), NoMemory>
-        ensures { OnOk result ((t : Token) → t.from ≡ place → self.new ≡ meant_name action t name self.old) }
+        ensures { OnOk result ((t : Token) → t.from ≡ place
+            → self.new ≡ meant_name action t name self.old) }
     {
         match action {
             Action::Name => self.reading.name = Some(name),
@@ -185,7 +193,8 @@ impl<'a> Walker<'a> {
         token: Token,
     ) -> Result<(), NoMemory>
         requires { is_plain meaning ≡ true }
-        ensures { OnOk result ((text : List ℕ) → self.new ≡ meant text action meaning token self.old) }
+        ensures { OnOk result ((text : List ℕ)
+            → self.new ≡ meant text action meaning token self.old) }
     {
         let place = token.from;
         match meaning {

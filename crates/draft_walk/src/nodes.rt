@@ -173,7 +173,10 @@ pub fn read_ending(nodes: &[DraftNode]) -> Ending
 
 /// The segment goes on the path of the name, where the node is one.
 fn with_segment(node: DraftNode, segment: Name) -> Result<DraftNode, NoMemory>
-    ensures { IfOk result (λ n. n ≡ record node { what = named_changed (with_segment segment) node.what }) }
+    ensures { IfOk result (λ n. n ≡ record node {
+      what =
+          named_changed (with_segment segment) node.what;
+    }) }
 {
     let place = node.place;
     let what = node.what;
@@ -191,7 +194,10 @@ fn with_segment(node: DraftNode, segment: Name) -> Result<DraftNode, NoMemory>
 
 /// The step goes on the chain of the name, where the node is one.
 fn with_step(node: DraftNode, step: Name) -> Result<DraftNode, NoMemory>
-    ensures { IfOk result (λ n. n ≡ record node { what = named_changed (with_step step) node.what }) }
+    ensures { IfOk result (λ n. n ≡ record node {
+      what =
+          named_changed (with_step step) node.what;
+    }) }
 {
     let place = node.place;
     let what = node.what;

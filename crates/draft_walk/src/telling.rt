@@ -128,7 +128,8 @@ impl<'a> Teller<'a> {
     /// The next token is taken, below the production that was opened last.
     fn shift(&mut self, source: &Source) -> Result<(), NoMemory>
         requires { AreTokensOf source.now.text.now self.old.now.rest }
-        ensures { OnOk result (self.new ≡ told (tables source.now.language) source.now.text.now self.old Event.Shift) }
+        ensures { OnOk result (self.new
+            ≡ told (tables source.now.language) source.now.text.now self.old Event.Shift) }
     {
         let action = match self.actions.last() {
             Some(action) => *action,
@@ -140,7 +141,8 @@ impl<'a> Teller<'a> {
     /// One event more.
     pub fn tell(&mut self, source: &Source, event: Event) -> Result<(), NoMemory>
         requires { AreTokensOf source.now.text.now self.old.now.rest }
-        ensures { OnOk result (self.new ≡ told (tables source.now.language) source.now.text.now self.old event) }
+        ensures { OnOk result (self.new
+            ≡ told (tables source.now.language) source.now.text.now self.old event) }
     {
         match event {
             Event::Open(production) => self.open(action_of(source.language, production)),
@@ -169,7 +171,8 @@ impl<'a> Teller<'a> {
 /// The next token is taken, below a production with this action.
 fn take(walker: &mut Walker, source: &Source, action: Action) -> Result<(), NoMemory>
     requires { AreTokensOf source.now.text.now walker.old.rest }
-    ensures { OnOk result (walker.new ≡ taken (tables source.now.language) source.now.text.now action walker.old) }
+    ensures { OnOk result (walker.new
+        ≡ taken (tables source.now.language) source.now.text.now action walker.old) }
 {
     let alloc = walker.alloc;
     let text = source.text;

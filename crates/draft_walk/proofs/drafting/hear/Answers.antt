@@ -8,4 +8,5 @@ use Rattle.draft_walk.proofs.drafting.hear.Goals as goal
 pub returns-in-Ok-clause-known : goal.returns-in-Ok-clause-known
 returns-in-Ok-clause-known c =
     let s = c.args.source.now in
-    subst (λ (t : Telling). AreTokensOf s.text.now t.now.rest) (sym c.in-Ok.ensures) (told_known (tables s.language) s.text.now c.args.teller.now c.args.event c.requires)
+    subst (λ (t : Telling). AreTokensOf s.text.now t.now.rest) (sym c.in-Ok.ensures)
+    (told_known (tables s.language) s.text.now c.args.teller.now c.args.event c.requires)

@@ -37,4 +37,5 @@ pub returns-in-Shift-clause-heard : goal.returns-in-Shift-clause-heard
 returns-in-Shift-clause-heard c =
     let p = c.loop-teller in
     heard_more c.args.source.now p.parser c.next.new.self p.teller c.hear.new.teller Shift p.invariant.heard
-    (c.in_ok-next.ensures.given ∙ ap (λ e. given_after p.parser.given (Ok e)) c.in-Shift.is) c.in_ok-hear-in-Shift.ensures.ok c.in_ok-hear-in-Shift.ensures.known
+    (c.in_ok-next.ensures.given ∙ ap (λ e. given_after p.parser.given (Ok e)) c.in-Shift.is) c.in_ok-hear-in-Shift.ensures.ok
+    c.in_ok-hear-in-Shift.ensures.known

@@ -13,7 +13,10 @@ loop-node-preserved c =
     let inv = c.loop-node.invariant in
     let below = c.loop-node-test.true in
     record {
-      star = c.add.ensures.star ∙ (ap (λ b. b || is_star n.what) inv.star ∙ (ap (λ (m : DraftNode). has_what is_star (take i ns) || is_star m.what) c.node-item.is ∙ sym (has_next is_star ns i n below)));
-      recursive = c.add.ensures.recursive ∙ (ap (λ b. b || is_deep n.what) inv.recursive ∙ (ap (λ (m : DraftNode). has_what is_deep (take i ns) || is_deep m.what) c.node-item.is ∙ sym (has_next is_deep ns i n below)));
-      all = c.add.ensures.all ∙ (ap (λ b. b || is_all n.what) inv.all ∙ (ap (λ (m : DraftNode). has_what is_all (take i ns) || is_all m.what) c.node-item.is ∙ sym (has_next is_all ns i n below)));
+      star = c.add.ensures.star ∙ (ap (λ b. b || is_star n.what) inv.star
+          ∙ (ap (λ (m : DraftNode). has_what is_star (take i ns) || is_star m.what) c.node-item.is ∙ sym (has_next is_star ns i n below)));
+      recursive = c.add.ensures.recursive ∙ (ap (λ b. b || is_deep n.what) inv.recursive
+          ∙ (ap (λ (m : DraftNode). has_what is_deep (take i ns) || is_deep m.what) c.node-item.is ∙ sym (has_next is_deep ns i n below)));
+      all = c.add.ensures.all ∙ (ap (λ b. b || is_all n.what) inv.all
+          ∙ (ap (λ (m : DraftNode). has_what is_all (take i ns) || is_all m.what) c.node-item.is ∙ sym (has_next is_all ns i n below)));
     }

@@ -7,5 +7,6 @@ use Rattle.draft_walk.proofs.walker.Walker.define.Goals as goal
 pub returns : goal.returns
 returns c =
     let now = c.index_mut.result.now in
-    changed_is _ (λ d. record d { kind = definition_of d.kind }) now _ c.self.invariant c.index_mut.ensures.value (ap (λ k. record now { kind = k }) c.define.ensures)
+    changed_is _ (λ d. record d { kind = definition_of d.kind }) now _ c.self.invariant c.index_mut.ensures.value
+    (ap (λ k. record now { kind = k }) c.define.ensures)
     ∙ ap (changed (λ d. record d { kind = definition_of d.kind })) c.self.view_is

@@ -7,5 +7,6 @@ use Rattle.draft_walk.proofs.walker.Walker.set_result.Goals as goal
 pub returns : goal.returns
 returns c =
     let now = c.index_mut.result.now in
-    changed_is _ (λ d. record d { result = Some (expression c.args.reading) }) now _ c.self.invariant c.index_mut.ensures.value (ap (λ b. record now { result = b }) (c.put.ensures ∙ ap Some c.expression-value.ensures))
+    changed_is _ (λ d. record d { result = Some (expression c.args.reading) }) now _ c.self.invariant c.index_mut.ensures.value
+    (ap (λ b. record now { result = b }) (c.put.ensures ∙ ap Some c.expression-value.ensures))
     ∙ ap (changed (λ d. record d { result = Some (expression c.args.reading) })) c.self.view_is
