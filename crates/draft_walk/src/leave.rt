@@ -201,7 +201,7 @@ impl<'a> Walker<'a> {
             recursive: ending.recursive,
             all: ending.all,
         };
-        let number = number_of(self.imports.len())?;
+        let number = number_of(self.imports.as_slice().len())?;
         self.list_inner(Item::Import(number), Role::Import, path)?;
         self.imports.push(import)?;
         Ok(())

@@ -162,8 +162,8 @@ impl<'a> Teller<'a> {
         Drafts {
             elements: walker.elements,
             members: walker.members,
-            imports: walker.imports,
-            large: walker.large,
+            imports: walker.imports.into_vec(),
+            large: walker.large.into_vec(),
         }
     }
 }

@@ -16,17 +16,18 @@ use token_core::Token;
 #[derive(Drop)]
 pub struct Walker<'a> {
     pub(crate) alloc: Global,
-    tokens: &'a [Token],
+    // All tokens of the text.
+    all: &'a [Token],
     // How many tokens were taken.
     at: usize,
     pub(crate) elements: Vec<Draft>,
     pub(crate) members: Vec<DraftMember>,
-    pub(crate) imports: Vec<DraftImport>,
+    pub(crate) imports: Row<DraftImport>,
     // The element that is open.
     pub(crate) current: usize,
     pub(crate) waiting: Option<Seen>,
     pub(crate) reading: Reading,
-    pub(crate) large: Vec<u32>,
+    pub(crate) large: Row<u32>,
 }
 
 impl<'a> Model for Walker<'a> {
@@ -38,12 +39,12 @@ impl<'a> Model for Walker<'a> {
     ghost view = { λ a. record {
       elements = a.elements.items;
       members = a.members.items;
-      imports = a.imports.items;
+      imports = a.imports;
       current = a.current;
       waiting = a.waiting;
       reading = a.reading;
-      large = a.large.items;
-      rest = drop a.at a.tokens.now;
+      large = a.large;
+      rest = drop a.at a.all.now;
     } };
 
     ghost invariant = { λ a. a.current < length a.elements.items };
@@ -120,15 +121,15 @@ impl<'a> Walker<'a> {
         elements.push(draft(alloc, Kind::Root, None))?;
         Ok(Walker {
             alloc,
-            tokens,
+            all: tokens,
             at: 0,
             elements,
             members: Vec::new(alloc),
-            imports: Vec::new(alloc),
+            imports: Row::new(alloc),
             current: 0,
             waiting: None,
             reading: nothing_read(alloc),
-            large: Vec::new(alloc),
+            large: Row::new(alloc),
         })
     }
 
@@ -136,7 +137,7 @@ impl<'a> Walker<'a> {
     pub fn next_place(&self) -> u32
         ensures { result ≡ next_place self.now.rest }
     {
-        match self.tokens.get(self.at) {
+        match self.all.get(self.at) {
             Some(token) => token.from,
             None => 0,
         }
@@ -174,7 +175,7 @@ impl<'a> Walker<'a> {
         ensures token { Splits self.old.rest result self.new.rest }
         ensures rest { self.new ≡ record self.old { rest = self.new.rest } }
     {
-        let token = self.tokens.get(self.at).copied()?;
+        let token = self.all.get(self.at).copied()?;
         self.at += 1;
         Some(token)
     }
