@@ -1,0 +1,11 @@
+pub mod Answers
+pub mod Book
+pub mod Files
+pub mod Labels
+pub mod Outcomes
+pub mod Places
+pub mod Printed
+pub mod Readings
+pub mod Rows
+pub mod Sorting
+pub mod Spelling
