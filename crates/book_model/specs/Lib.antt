@@ -9,3 +9,4 @@ pub mod Readings
 pub mod Rows
 pub mod Sorting
 pub mod Spelling
+pub mod Worked

@@ -1,0 +1,189 @@
+-- Worked examples: a book of three files and what it answers.
+--   b.sysml  part c : 'C c';
+--            part q :> c.engine;
+--            part r :> none;
+--   c.sysml  part p : ;
+--   a.sysml  part def V { part engine; }
+--            part def 'C c' :> V { part :>> engine; }
+use Rattle.std.specs.Prelude.{◌≡◌, ℕ, true, false, List, [], ◌∷◌, ◌++◌, Some, None, codes, refl}
+use Rattle.std.specs.Fmt.{digits}
+use Rattle.demand_core.specs.Least.{least, stage}
+use Rattle.demand_core.specs.Gather.{gather}
+use Rattle.element_store.specs.declared.outcome.Language.TheVariants.{Kerml, Sysml}
+use Rattle.element_store.specs.declared.outcome.Role.TheVariants as role
+use Rattle.element_store.specs.declared.kind.Kind.TheVariants as kind
+use Rattle.element_store.specs.declared.records.Reference.{Reference}
+use Rattle.element_store.specs.Model.{Data, root_element}
+use Rattle.token_core.specs.Words.{words, signs}
+use Rattle.text_model.specs.declared.fault.FileFault.TheVariants.{Syntax}
+use Rattle.link_model.specs.Names.{names_from}
+use Rattle.link_model.specs.Imports.{visible_from}
+use Rattle.link_model.specs.Written.{alias, data_of, thing, nameless, owned, owned_as, refers}
+use Rattle.element_store.specs.declared.kind.Visibility.TheVariants.{Public}
+use Rattle.book_model.specs.declared.edit.Edit.TheVariants as edit
+use Rattle.book_model.specs.Book.{Book, Edited, edited}
+use Rattle.book_model.specs.Readings.{Reading}
+use Rattle.book_model.specs.Files.{ProjectFile, names_of}
+use Rattle.book_model.specs.Labels.{label_of}
+use Rattle.book_model.specs.Printed.{place_text}
+use Rattle.book_model.specs.Places.{place_of}
+use Rattle.book_model.specs.Spelling.{written_name}
+use Rattle.book_model.specs.Answers.{Command, answer_of, book_after}
+
+abbrev pub uses_text : List ℕ
+uses_text = codes "part c : 'C c';\npart q :> c.engine;\npart r :> none;\n"
+
+abbrev pub faulty_text : List ℕ
+faulty_text = codes "part p : ;"
+
+abbrev pub types_text : List ℕ
+types_text = codes "part def V { part engine; }\npart def 'C c' :> V { part :>> engine; }\n"
+
+-- the chain `c.engine`, written in the element of that number
+abbrev pub chained : Reference
+chained = record (refers role.Subsetting 2 (codes "c" ∷ [])) { chain = codes "engine" ∷ [] }
+
+abbrev pub uses_model : Data
+uses_model = record (data_of 0
+    (root_element
+    ∷ thing kind.Part 0 (codes "c")
+    ∷ thing kind.Part 0 (codes "q")
+    ∷ thing kind.Part 0 (codes "r")
+    ∷ [])
+    (owned 0 1 (codes "c") ∷ owned 0 2 (codes "q") ∷ owned 0 3 (codes "r") ∷ [])
+    (refers role.Typing 1 (codes "C c" ∷ []) ∷ chained ∷ refers role.Subsetting 3 (codes "none" ∷ []) ∷ [])
+    []) { member_places = 0 ∷ 16 ∷ 36 ∷ []; reference_places = 9 ∷ 26 ∷ 46 ∷ [] }
+
+abbrev pub types_model : Data
+types_model = record (data_of 2
+    (root_element
+    ∷ thing kind.PartDef 0 (codes "V")
+    ∷ thing kind.Part 1 (codes "engine")
+    ∷ thing kind.PartDef 0 (codes "C c")
+    ∷ nameless kind.Part 3
+    ∷ [])
+    (owned 0 1 (codes "V") ∷ owned 1 2 (codes "engine") ∷ owned 0 3 (codes "C c") ∷ owned_as Public 3 4 None ∷ [])
+    (refers role.Subclass 3 (codes "V" ∷ []) ∷ refers role.Redefinition 4 (codes "engine" ∷ []) ∷ [])
+    []) { member_places = 0 ∷ 13 ∷ 28 ∷ 50 ∷ []; reference_places = 46 ∷ 59 ∷ [] }
+
+-- the file of the book with that text, read so
+abbrev pub file_with : List ℕ → List ℕ → Reading → ProjectFile
+file_with name text reading =
+    record { name = name; library = false; content = Some (record { text = text; reading = reading }) }
+
+abbrev pub book : Book
+book = (codes "b.sysml", Some uses_text) ∷ (codes "c.sysml", Some faulty_text) ∷ (codes "a.sysml", Some types_text) ∷ []
+
+abbrev pub files : List ProjectFile
+files =
+    file_with (codes "b.sysml") uses_text (Reading.Model uses_model)
+    ∷ file_with (codes "c.sysml") faulty_text (Reading.Fault (Syntax 9))
+    ∷ file_with (codes "a.sysml") types_text (Reading.Model types_model)
+    ∷ []
+
+-- shown: a quoted name, a chain to a nested element without a name, and a name that nothing bears
+pub links_of_uses : answer_of book files (Command.Links (codes "b.sysml"))
+    ≡ codes "1:10 typing 'C c' -> linked a.sysml 'C c'\n"
+    ++ codes "2:11 subset c.engine -> linked a.sysml 'C c'::#4\n"
+    ++ codes "3:11 subset none -> absent 1\n"
+    ++ codes "links b.sysml 3\n"
+unfolding least stage gather names_from visible_from words signs digits
+links_of_uses = refl
+
+-- shown: the fault of a file and a link that is refused, in byte order of names, and the counts
+pub check_of_files : answer_of book files Command.Check
+    ≡ codes "b.sysml:3:11 subset none -> absent 1\n"
+    ++ codes "c.sysml:1:10 refused Syntax\n"
+    ++ codes "check files 3 references 5 faults 2\n"
+unfolding least stage gather names_from visible_from words signs digits
+check_of_files = refl
+
+-- shown: what puts answer, and what is answered of a name without a text
+pub put_of_uses : answer_of [] files (Command.Put (codes "b.sysml") uses_text)
+    ≡ codes "put b.sysml elements 3 references 3\n"
+unfolding digits
+put_of_uses = refl
+
+pub put_of_faulty : answer_of [] files (Command.Put (codes "c.sysml") faulty_text)
+    ≡ codes "put c.sysml refused 1:10 Syntax\n"
+unfolding digits
+put_of_faulty = refl
+
+pub links_without_file : answer_of book files (Command.Links (codes "x.sysml")) ≡ codes "links x.sysml no file\n"
+links_without_file = refl
+
+pub drop_of_file : answer_of book files (Command.Drop (codes "c.sysml")) ≡ codes "drop c.sysml done\n"
+drop_of_file = refl
+
+-- shown: a dropped name keeps its place, and a second drop changes nothing
+pub dropped_once : book_after book (Command.Drop (codes "c.sysml"))
+    ≡ (codes "b.sysml", Some uses_text) ∷ (codes "c.sysml", None) ∷ (codes "a.sysml", Some types_text) ∷ []
+dropped_once = refl
+
+pub dropped_twice : edited (book_after book (Command.Drop (codes "c.sysml"))) (edit.Drop (codes "c.sysml"))
+    ≡ Edited.NotThere
+dropped_twice = refl
+
+-- shown: names rise in byte order, and one comes before the longer ones that begin like it
+pub ranked_names : names_of (file_with (codes "b.sysml") [] (Reading.Fault (Syntax 0))
+    ∷ file_with (codes "a.sysml.sysml") [] (Reading.Fault (Syntax 0))
+    ∷ record { name = codes "c.sysml"; library = false; content = None }
+    ∷ file_with (codes "a.sysml") [] (Reading.Fault (Syntax 0)) ∷ [])
+    ≡ codes "a.sysml" ∷ codes "a.sysml.sysml" ∷ codes "b.sysml" ∷ []
+ranked_names = refl
+
+-- shown: where a name needs quotes hangs on the language; escapes, `$::`, and a name with no byte
+pub reserved_in_sysml : written_name Sysml true (codes "part" ∷ codes "in" ∷ codes "x1" ∷ []) []
+    ≡ codes "$::'part'::'in'::x1"
+unfolding words
+reserved_in_sysml = refl
+
+pub reserved_in_kerml : written_name Kerml true (codes "part" ∷ codes "in" ∷ codes "x1" ∷ []) []
+    ≡ codes "$::part::'in'::x1"
+unfolding words
+reserved_in_kerml = refl
+
+pub escaped_names : written_name Sysml false (codes "it's" ∷ []) ([] ∷ codes "a\nb" ∷ codes "7" ∷ [])
+    ≡ codes "'it\\'s'.''.'a\\nb'.'7'"
+unfolding words
+escaped_names = refl
+
+-- shown: the root has no part in a label, and its own label is empty
+pub label_below_root : label_of types_model 2 ≡ codes "V::engine"
+unfolding words digits
+label_below_root = refl
+
+pub label_of_root : label_of types_model 0 ≡ []
+label_of_root = refl
+
+-- shown: places begin at 1:1, and a line feed ends the line in which it stands
+pub place_of_start : place_text (place_of uses_text 0) ≡ codes "1:1"
+unfolding digits
+place_of_start = refl
+
+pub place_of_line_feed : place_text (place_of uses_text 15) ≡ codes "1:16"
+unfolding digits
+place_of_line_feed = refl
+
+pub place_behind_it : place_text (place_of uses_text 16) ≡ codes "2:1"
+unfolding digits
+place_behind_it = refl
+
+-- Two aliases in a circle.
+--   a.sysml  alias a for b;
+--   b.sysml  alias b for a;
+abbrev pub circle : List ProjectFile
+circle =
+    file_with (codes "a.sysml") (codes "alias a for b;") (Reading.Model (record (data_of 0
+    (root_element ∷ []) (alias 0 0 (codes "a") ∷ []) (refers role.Alias 0 (codes "b" ∷ []) ∷ []) [])
+    { member_places = 0 ∷ []; reference_places = 12 ∷ [] }))
+    ∷ file_with (codes "b.sysml") (codes "alias b for a;") (Reading.Model (record (data_of 1
+    (root_element ∷ []) (alias 0 0 (codes "b") ∷ []) (refers role.Alias 0 (codes "a" ∷ []) ∷ []) [])
+    { member_places = 0 ∷ []; reference_places = 12 ∷ [] }))
+    ∷ []
+
+-- shown: each is cyclic on the other
+pub links_in_circle : answer_of [] circle (Command.Links (codes "a.sysml"))
+    ≡ codes "1:13 alias b -> cyclic b.sysml:1:13\nlinks a.sysml 1\n"
+unfolding least stage gather names_from visible_from words signs digits
+links_in_circle = refl
