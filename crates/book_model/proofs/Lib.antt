@@ -1,0 +1,5 @@
+pub mod EditLaws
+pub mod LabelLaws
+pub mod PlaceLaws
+pub mod RowLaws
+pub mod SortingLaws

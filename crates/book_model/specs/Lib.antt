@@ -10,3 +10,4 @@ pub mod Rows
 pub mod Sorting
 pub mod Spelling
 pub mod Worked
+pub mod Laws
