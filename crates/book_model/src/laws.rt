@@ -1,0 +1,96 @@
+//! Laws of the book. Each is a function with nothing to run: what it ensures holds of the definitions
+//! alone.
+ghost use Rattle.std.specs.Prelude.{◌≡◌, ◌≤◌, ◌<◌, ℕ, List, Some, length, slice_get, option_map};
+ghost use Rattle.std.specs.Map.{keys_of};
+ghost use Rattle.element_store.specs.declared.records.Element.{Element};
+ghost use Rattle.element_store.specs.Condition.{IsModel};
+ghost use Rattle.element_store.specs.Model.{Data};
+ghost use Rattle.element_store.specs.Stored.{AreFiles};
+ghost use Rattle.linker_base.specs.Members.{IsEachOnce};
+ghost use Rattle.linker_base.specs.Orders.{AreInOrder};
+ghost use Rattle.book_model.specs.declared.edit.Edit.{Edit};
+ghost use Rattle.book_model.specs.Answers.{AreAnswers, Command, IsAnswer};
+ghost use Rattle.book_model.specs.Book.{Book, Edited, edited, left_by, text_in};
+ghost use Rattle.book_model.specs.Files.{AreFilesOf, LibraryTexts, ProjectFile};
+ghost use Rattle.book_model.specs.Files.{content_under, ranked, stored};
+ghost use Rattle.book_model.specs.Labels.{own_part, parts_of, parts_under};
+ghost use Rattle.book_model.specs.Laws.{AreRanked, AreRising, AreWithin, HasOneOutcome, HasOneRowEach};
+ghost use Rattle.book_model.specs.Laws.{IsBelow, IsDone, IsPrintedBefore, IsRowBefore, IsSmall, IsWithin};
+ghost use Rattle.book_model.specs.Laws.{OneReading, TextsHaveModels};
+ghost use Rattle.book_model.specs.Rows.{Outcomes, rising, rows_in};
+
+/// A law: an edit that is refused, or finds nothing to drop, changes nothing. Any other leaves its text
+/// under its name and what stood under every other, keeps the names in their order, and leaves a book
+/// within its limits.
+pub fn edits_are_exact()
+    ensures refused { (book : Book) (e : Edit) (number : ℕ) → edited book e ≡ Edited.Limit number
+        → left_by book (edited book e) ≡ book }
+    ensures missing { (book : Book) (e : Edit) → edited book e ≡ Edited.NotThere
+        → left_by book (edited book e) ≡ book }
+    ensures changed { (book : Book) (e : Edit) (changed : Book)
+        → edited book e ≡ Edited.Changed changed → IsDone book e changed }
+    ensures within { (book : Book) (e : Edit) (changed : Book) → IsWithin book
+        → edited book e ≡ Edited.Changed changed → IsWithin changed }
+{}
+
+/// A law: where texts have one outcome, a book over a library has at most one list of files.
+pub fn one_list_of_files()
+    ensures reading { HasOneOutcome → OneReading }
+    ensures files { OneReading → (book : Book) (library : LibraryTexts) (a b : List ProjectFile)
+        → AreFilesOf book library a × AreFilesOf book library b → a ≡ b }
+{}
+
+/// A law: and each command has at most one answer, and so have commands one after the other.
+pub fn one_answer_each()
+    ensures one { OneReading → (library : LibraryTexts) (book : Book) (c : Command) (a b : List ℕ)
+        → IsAnswer library book c a × IsAnswer library book c b → a ≡ b }
+    ensures all { OneReading → (library : LibraryTexts) (book : Book) (cs : List Command)
+        (a b : List ℕ) → AreAnswers library book cs a × AreAnswers library book cs b → a ≡ b }
+{}
+
+/// A law: the files of a book hold under each name the text that the book has there, or none.
+pub fn texts_are_found()
+    ensures { (book : Book) (library : LibraryTexts) (files : List ProjectFile) (name : List ℕ)
+        → AreFilesOf book library files
+        → option_map (λ c. c.text) (content_under files name) ≡ text_in book name }
+{}
+
+/// A law: where the models of texts are models, the files of a book are files as the laws of links want
+/// them.
+pub fn stored_files_are_files()
+    ensures { TextsHaveModels → (book : Book) (library : LibraryTexts) (files : List ProjectFile)
+        → IsSmall book library × AreFilesOf book library files → AreFiles (stored files) }
+{}
+
+/// A law: the present files are ranked in byte order of their names, and where each name stands once in
+/// the book these names rise.
+pub fn files_are_ranked()
+    ensures order { (files : List ProjectFile) → AreRanked files (ranked files) }
+    ensures rising { (book : Book) (library : LibraryTexts) (files : List ProjectFile)
+        → IsEachOnce (keys_of book) → AreFilesOf book library files
+        → AreInOrder IsBelow (ranked files) }
+{}
+
+/// A law: the references of a file are listed in rising order of places, and then of numbers. Where each
+/// has a place, each has one row, whatever the outcomes; and where the places stand within the text, the
+/// rows rise as they are printed.
+pub fn rows_are_exact()
+    ensures references { (d : Data) → AreRising d (rising d) }
+    ensures each { (outcomes : Outcomes) (text : List ℕ) (d : Data)
+        → length d.reference_places ≡ length d.references
+        → HasOneRowEach d (rows_in outcomes text d) }
+    ensures rising { (outcomes : Outcomes) (text : List ℕ) (d : Data)
+        → AreWithin text d.reference_places → AreInOrder IsRowBefore (rows_in outcomes text d) }
+{}
+
+/// A law: a later place of a text is printed with a later line, or with a later column of the same line.
+pub fn later_places_print_later()
+    ensures { (text : List ℕ) (p q : ℕ) → p < q → q ≤ length text → IsPrintedBefore text p q }
+{}
+
+/// A law: the steps of a label are enough. The parts of an element of a model are those of its owner,
+/// and its own; the root has none.
+pub fn labels_have_steps()
+    ensures { (d : Data) (e : ℕ) (x : Element) → IsModel d → slice_get d.elements e ≡ Some x
+        → parts_of d e ≡ parts_under (parts_of d) (own_part d.language e x) x.owner }
+{}
