@@ -1,13 +1,13 @@
 -- What an edit leaves: the texts under all names, and the names.
 use Rattle.std.proofs.Common.{◌≡◌, ◌∙◌, ◌⊎◌, ℕ, suc, ◌≤◌, Bool, true, false, cond, List, [], ◌∷◌, ◌++◌, length, refl, sym, ap, subst, arith, inl, inr}
-use Rattle.std.specs.Prelude.{◌≢◌, Option, Some, None, nat_eq, nat_lt, map}
+use Rattle.std.specs.Prelude.{◌≢◌, Option, Some, None, nat_eq, nat_lt}
 use Rattle.std.specs.Option.{option_map_or}
 use Rattle.std.specs.Map.{keys_of, lookup}
 use Rattle.std.specs.Cmp.Lexicographic.{pointwise, bytes_decides}
 use Rattle.std.proofs.lemmas.Bool.Decides.{nat_tests}
 use Rattle.linker_base.specs.Members.{IsMember, IsEachOnce}
 use Rattle.linker_base.specs.declared.limits.TheConstants.{BOOK_BYTES, FILE_BYTES, NAMES}
-use Rattle.linker_base.proofs.Cases.{bool_cases, option_cases}
+use Rattle.linker_base.proofs.Cases.{bool_cases}
 use Rattle.book_model.specs.declared.edit.Edit.{Edit}
 use Rattle.book_model.specs.declared.edit.Edit.TheVariants.{Put, Drop}
 use Rattle.book_model.specs.Book.{Book, text_in, with_entry, put_in, bytes_in, Edited, dropped, edited, left_by}

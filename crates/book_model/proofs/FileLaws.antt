@@ -1,14 +1,13 @@
 -- A book has one list of files at most, in which its texts are found.
-use Rattle.std.proofs.Common.{◌≡◌, ◌∙◌, ◌⊎◌, ℕ, suc, Bool, true, false, cond, not, ◌&&◌, List, [], ◌∷◌, ◌++◌, refl, sym, ap, subst, inl, inr}
+use Rattle.std.proofs.Common.{◌≡◌, ◌∙◌, ℕ, suc, Bool, true, false, cond, not, ◌&&◌, List, [], ◌∷◌, ◌++◌, refl, sym, ap}
 use Rattle.std.specs.Prelude.{Option, Some, None, nat_eq, map}
 use Rattle.std.specs.Option.{option_map, option_map_or}
 use Rattle.std.specs.Map.{lookup}
 use Rattle.std.specs.Cmp.Lexicographic.{pointwise}
-use Rattle.linker_base.proofs.Cases.{bool_cases}
 use Rattle.element_store.specs.declared.numbers.FileNo.{FileNo}
 use Rattle.element_store.specs.declared.outcome.Language.{Language}
 use Rattle.book_model.specs.Book.{Book, text_in}
-use Rattle.book_model.specs.Readings.{Reading, IsReading}
+use Rattle.book_model.specs.Readings.{Reading}
 use Rattle.book_model.specs.Files.{LibraryTexts, Entry, entries_of, Content, ProjectFile, IsContentOf, IsFileOf, AreFilesFrom, AreFilesOf, content_under}
 use Rattle.book_model.specs.Answers.{Command, book_after, answer_of, IsAnswer, AreAnswers}
 use Rattle.book_model.specs.Laws.{OneReading, HasOneOutcome}
@@ -92,11 +91,11 @@ book_found n (e ∷ es) (f ∷ fs) name are =
     let own = ap (λ b. texts_of (cond (not b && pointwise nat_eq name f.name) f.content (content_under fs name))) are.0.library in
     let named = ap (λ x. texts_of (cond (pointwise nat_eq name x) f.content (content_under fs name))) are.0.name in
     own ∙ (named ∙ here (pointwise nat_eq name e.0) (content_text (record { 0 = n }) _ e.1 f.content are.0.content) (book_found (suc n) es fs name are.1))
-    where
-      here : (b : Bool) → texts_of f.content ≡ e.1 → texts_of (content_under fs name) ≡ text_in es name
-          → texts_of (cond b f.content (content_under fs name)) ≡ option_map_or (λ text. text) (cond b (Some e.1) (lookup (pointwise nat_eq name) es)) None
-      here true p q = p
-      here false p q = q
+  where
+    here : (b : Bool) → texts_of f.content ≡ e.1 → texts_of (content_under fs name) ≡ text_in es name
+        → texts_of (cond b f.content (content_under fs name)) ≡ option_map_or (λ text. text) (cond b (Some e.1) (lookup (pointwise nat_eq name) es)) None
+    here true p q = p
+    here false p q = q
 
 library_found : (n : ℕ) (library : LibraryTexts) (book : Book) (files : List ProjectFile) (name : List ℕ) → AreFilesFrom n (map library_entry library ++ map book_entry book) files
     → texts_of (content_under files name) ≡ text_in book name

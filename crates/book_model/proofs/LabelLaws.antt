@@ -1,8 +1,7 @@
 -- The steps of a label are enough: an element's parts are its owner's and its own.
-use Rattle.std.proofs.Common.{◌≡◌, ◌∙◌, ℕ, ◌<◌, zero, suc, List, [], ◌∷◌, ◌++◌, length, refl, sym, ap, subst, arith}
+use Rattle.std.proofs.Common.{◌≡◌, ◌∙◌, ℕ, ◌<◌, zero, suc, List, [], ◌∷◌, ◌++◌, length, refl, ap, arith}
 use Rattle.std.specs.Prelude.{Option, Some, None, IfSome, slice_get}
 use Rattle.std.proofs.lemmas.Option.{slice_get_within}
-use Rattle.linker_base.proofs.Cases.{option_cases}
 use Rattle.element_store.specs.declared.outcome.Language.{Language}
 use Rattle.element_store.specs.declared.records.Element.{Element}
 use Rattle.element_store.specs.Model.{Data}

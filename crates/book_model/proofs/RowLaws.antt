@@ -1,6 +1,6 @@
 -- Rows stand in rising place, and each reference has one.
 use Rattle.std.proofs.Common.{◌≡◌, ◌∙◌, ◌⊎◌, ℕ, ◌<◌, ◌≤◌, zero, suc, Bool, true, false, List, [], ◌∷◌, length, refl, sym, ap, subst, arith, inl, inr}
-use Rattle.std.specs.Prelude.{map, nat_eq, nat_lt, ◌&&◌, ◌||◌}
+use Rattle.std.specs.Prelude.{map, nat_eq, nat_lt, ◌&&◌}
 use Rattle.std.specs.Cmp.{IsStrictWeakOrder}
 use Rattle.std.proofs.lemmas.Bool.Decides.{nat_tests}
 use Rattle.linker_base.specs.Members.{IsMember, SameMembers, IsEachOnce}
@@ -10,7 +10,7 @@ use Rattle.element_store.specs.declared.records.Reference.{Reference}
 use Rattle.element_store.specs.Numbers.{places_from}
 use Rattle.element_store.specs.Model.{Data}
 use Rattle.book_model.specs.declared.rows.LinkRow.{LinkRow}
-use Rattle.book_model.specs.Laws.{StandsEarlier, AreRising, HasOneRowEach, IsPlaceBefore, IsRowBefore, AreWithin}
+use Rattle.book_model.specs.Laws.{StandsEarlier, AreRising, HasOneRowEach, IsRowBefore, AreWithin}
 use Rattle.book_model.specs.Places.{place_of}
 use Rattle.book_model.specs.Rows.{Outcomes, Standing, standing_from, standing, stands_earlier, rising, link_row, rows_in}
 use Rattle.book_model.proofs.PlaceLaws.{printed_later}

@@ -1,5 +1,5 @@
 -- What `sorted_by` gives: the same items in order, and each as often as before.
-use Rattle.std.proofs.Common.{◌≡◌, Bool, true, false, cond, List, [], ◌∷◌, refl, sym, ap, subst, ◌⊎◌, inl, inr}
+use Rattle.std.proofs.Common.{◌≡◌, Bool, true, false, cond, List, [], ◌∷◌, refl, sym, ap, subst, inl, inr}
 use Rattle.std.specs.Prelude.{map}
 use Rattle.std.specs.Cmp.{IsStrictWeakOrder}
 use Rattle.linker_base.specs.Members.{IsMember, SameMembers, IsEachOnce}

@@ -21,7 +21,7 @@ use Rattle.book_model.specs.declared.rows.Place.{Place}
 use Rattle.book_model.specs.declared.rows.LinkRow.{LinkRow}
 use Rattle.book_model.specs.Book.{Book, text_in, bytes_in}
 use Rattle.book_model.specs.Readings.{Reading, IsReading}
-use Rattle.book_model.specs.Files.{LibraryTexts, Entry, entries_of, ProjectFile, Present, present, name_before, AreFilesOf}
+use Rattle.book_model.specs.Files.{LibraryTexts, Entry, entries_of, ProjectFile, Present, present, name_before}
 use Rattle.book_model.specs.Places.{place_of}
 use Rattle.book_model.specs.Rows.{Standing, standing}
 

@@ -1,6 +1,6 @@
 -- Rows: the references of a file with what became of them, and what is wrong with the files of a book. Whatever decides
 -- the outcomes, a row shows the one that it is given.
-use Rattle.std.specs.Prelude.{ℕ, ◌-◌, suc, Bool, true, false, ◌&&◌, ◌||◌, not, nat_eq, nat_lt, List, [], ◌∷◌, length, map, Option, Some, None}
+use Rattle.std.specs.Prelude.{ℕ, ◌-◌, suc, Bool, true, false, ◌&&◌, ◌||◌, not, nat_eq, nat_lt, List, [], ◌∷◌, length, map}
 use Rattle.std.specs.List.{flat_map}
 use Rattle.element_store.specs.declared.numbers.FileNo.{FileNo}
 use Rattle.element_store.specs.declared.numbers.RefNo.{RefNo}
@@ -15,7 +15,7 @@ use Rattle.book_model.specs.declared.rows.FaultRow.TheVariants.{File, Link}
 use Rattle.book_model.specs.declared.rows.FileReport.{FileReport}
 use Rattle.book_model.specs.declared.rows.FileReport.TheVariants.{In, Refused}
 use Rattle.book_model.specs.Readings.{Reading, fault_place}
-use Rattle.book_model.specs.Files.{Content, ProjectFile, Present, ranked}
+use Rattle.book_model.specs.Files.{Content, ProjectFile, ranked}
 use Rattle.book_model.specs.Places.{place_of}
 use Rattle.book_model.specs.Sorting.{sorted_by}
 

@@ -35,9 +35,16 @@ pub type LinkRows = Listing<LinkRow>;
 #[derive(Drop)]
 pub enum FaultRow {
     /// Its text isn't within the profile.
-    File { name: FileName, fault: FileFault, place: Place },
+    File {
+        name: FileName,
+        fault: FileFault,
+        place: Place,
+    },
     /// One of its references isn't linked.
-    Link { name: FileName, row: LinkRow },
+    Link {
+        name: FileName,
+        row: LinkRow,
+    },
 }
 
 /// What is wrong with the files of a book, in byte order of their names.
