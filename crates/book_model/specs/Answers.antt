@@ -5,13 +5,14 @@ use Rattle.std.specs.List.{flat_map}
 use Rattle.std.specs.Option.{option_map_or}
 use Rattle.book_model.specs.declared.edit.Edit.{Edit}
 use Rattle.book_model.specs.declared.edit.Edit.TheVariants as edit
+use Rattle.book_model.specs.declared.rows.LinkRow.{LinkRow}
+use Rattle.book_model.specs.declared.rows.FaultRow.{FaultRow}
 use Rattle.book_model.specs.declared.rows.FileReport.{FileReport}
 use Rattle.book_model.specs.declared.rows.FileReport.TheVariants.{In, Refused}
 use Rattle.book_model.specs.Book.{Book, text_in, edited, left_by, number_of}
-use Rattle.book_model.specs.Files.{LibraryTexts, Content, ProjectFile, Present, stored, present, content_under, AreFilesOf}
-use Rattle.book_model.specs.Outcomes.{outcome_of}
-use Rattle.book_model.specs.Rows.{Outcomes, rows_of, faults_in, report_of, references_by}
-use Rattle.book_model.specs.Printed.{place_text, fault_text, row_text, fault_row_text}
+use Rattle.book_model.specs.Files.{LibraryTexts, ProjectFile, AreFilesOf}
+use Rattle.book_model.specs.Queries.{file_query, links_query, reports, faults_query}
+use Rattle.book_model.specs.Printed.{report_text, row_text, fault_row_text}
 
 -- put a text under a name; drop the text under a name; list the links of a file; list what is wrong with all files
 pub data Command : Type 0 where
@@ -34,51 +35,47 @@ book_after book c = option_map_or (λ e. left_by book (edited book e)) (edit_of 
 abbrev pub refusal_of : Book → Command → Option ℕ
 refusal_of book c = option_map_or (λ e. number_of (edited book e)) (edit_of c) None
 
--- a line, with its LF
-abbrev pub line : List ℕ → List ℕ
-line text = text ++ codes "\n"
+-- a line that begins with a command and its name, with its LF
+abbrev pub line : List ℕ → List ℕ → List ℕ → List ℕ
+line command name rest = command ++ codes " " ++ name ++ codes " " ++ rest ++ codes "\n"
+
+abbrev pub no_file : List ℕ
+no_file = codes "no file"
 
 -- PUT. The numbers of elements and references, or the refusal.
-abbrev pub report_text : FileReport → List ℕ
-report_text (In elements references) = codes " elements " ++ decimal elements ++ codes " references " ++ decimal references
-report_text (Refused fault place) = codes " refused " ++ place_text place ++ codes " " ++ fault_text fault
-
-abbrev pub put_answer : List ℕ → Option Content → List ℕ
-put_answer name None = line (codes "put " ++ name ++ codes " no file")
-put_answer name (Some c) = line (codes "put " ++ name ++ report_text (report_of c))
+abbrev pub put_answer : List ℕ → Option FileReport → List ℕ
+put_answer name None = line (codes "put") name no_file
+put_answer name (Some report) = line (codes "put") name (report_text report)
 
 -- DROP. Whether a text stood under the name.
 abbrev pub drop_answer : List ℕ → Option (List ℕ) → List ℕ
-drop_answer name None = line (codes "drop " ++ name ++ codes " no file")
-drop_answer name (Some text) = line (codes "drop " ++ name ++ codes " done")
+drop_answer name None = line (codes "drop") name no_file
+drop_answer name (Some text) = line (codes "drop") name (codes "done")
 
 -- LINKS. The rows of the file and their number, or that no text is present under the name.
-abbrev pub links_answer : Outcomes → List ProjectFile → List ℕ → Option Content → List ℕ
-links_answer outcomes files name None = line (codes "links " ++ name ++ codes " no file")
-links_answer outcomes files name (Some c) =
-    let rows = rows_of outcomes c in
-    flat_map (λ row. line (row_text files row)) rows
-    ++ line (codes "links " ++ name ++ codes " " ++ decimal (length rows))
+abbrev pub links_answer : List ProjectFile → List ℕ → Option (List LinkRow) → List ℕ
+links_answer files name None = line (codes "links") name no_file
+links_answer files name (Some rows) =
+    flat_map (λ row. row_text files row ++ codes "\n") rows ++ line (codes "links") name (decimal (length rows))
 
 -- CHECK. What is wrong, and the numbers of present files, of their references and of these rows.
-abbrev pub references_in : List Present → ℕ
+abbrev pub references_in : List FileReport → ℕ
 references_in [] = 0
-references_in (f ∷ fs) = references_by f.content.reading + references_in fs
+references_in (In elements references ∷ more) = references + references_in more
+references_in (Refused fault place ∷ more) = references_in more
 
-abbrev pub check_answer : Outcomes → List ProjectFile → List ℕ
-check_answer outcomes files =
-    let rows = faults_in outcomes files in
-    flat_map (λ row. line (fault_row_text files row)) rows
-    ++ line (codes "check files " ++ decimal (length (present files)) ++ codes " references "
-    ++ decimal (references_in (present files)) ++ codes " faults " ++ decimal (length rows))
+abbrev pub check_answer : List ProjectFile → List FileReport → List FaultRow → List ℕ
+check_answer files present rows =
+    flat_map (λ row. fault_row_text files row ++ codes "\n") rows
+    ++ codes "check files " ++ decimal (length present) ++ codes " references " ++ decimal (references_in present)
+    ++ codes " faults " ++ decimal (length rows) ++ codes "\n"
 
 -- THE ANSWER of a command over a book, by the files of the book that it leaves
 abbrev pub answer_of : Book → List ProjectFile → Command → List ℕ
-answer_of book files (Command.Put name text) = put_answer name (content_under files name)
+answer_of book files (Command.Put name text) = put_answer name (file_query files name)
 answer_of book files (Command.Drop name) = drop_answer name (text_in book name)
-answer_of book files (Command.Links name) =
-    links_answer (outcome_of (stored files)) files name (content_under files name)
-answer_of book files Command.Check = check_answer (outcome_of (stored files)) files
+answer_of book files (Command.Links name) = links_answer files name (links_query files name)
+answer_of book files Command.Check = check_answer files (reports files) (faults_query files)
 
 pub record IsAnswer (library : LibraryTexts) (book : Book) (c : Command) (answer : List ℕ) : Type 0 where
   pub files : List ProjectFile
@@ -89,5 +86,7 @@ pub record IsAnswer (library : LibraryTexts) (book : Book) (c : Command) (answer
 abbrev pub AreAnswers : LibraryTexts → Book → List Command → List ℕ → Type 0
 AreAnswers library book [] answers = answers ≡ []
 AreAnswers library book (c ∷ cs) answers =
-    (first more : List ℕ) × IsAnswer library book c first × AreAnswers library (book_after book c) cs more
+    (first more : List ℕ)
+    × IsAnswer library book c first
+    × AreAnswers library (book_after book c) cs more
     × (answers ≡ first ++ more)

@@ -114,7 +114,3 @@ name_before f g = is_lt (slice_cmp nat_cmp f.name g.name)
 
 abbrev pub ranked : List ProjectFile → List Present
 ranked files = sorted_by name_before (present files)
-
--- the names of the present files, in byte order
-abbrev pub names_of : List ProjectFile → List (List ℕ)
-names_of files = map (λ f. f.name) (ranked files)

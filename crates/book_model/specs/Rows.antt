@@ -84,8 +84,3 @@ report_by text (Reading.Fault fault) = Refused fault (place_of text (fault_place
 
 abbrev pub report_of : Content → FileReport
 report_of c = report_by c.text c.reading
-
--- the number of a file's references
-abbrev pub references_by : Reading → ℕ
-references_by (Reading.Model d) = length d.references
-references_by (Reading.Fault fault) = 0

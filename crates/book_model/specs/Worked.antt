@@ -18,12 +18,13 @@ use Rattle.token_core.specs.Words.{words, signs}
 use Rattle.text_model.specs.declared.fault.FileFault.TheVariants.{Syntax}
 use Rattle.link_model.specs.Names.{names_from}
 use Rattle.link_model.specs.Imports.{visible_from}
-use Rattle.link_model.specs.Written.{alias, data_of, thing, nameless, owned, owned_as, refers}
-use Rattle.element_store.specs.declared.kind.Visibility.TheVariants.{Public}
+use Rattle.link_model.specs.Written.{alias, brings, data_of, thing, nameless, owned, owned_as, refers}
+use Rattle.element_store.specs.declared.kind.Visibility.TheVariants.{Private, Public}
 use Rattle.book_model.specs.declared.edit.Edit.TheVariants as edit
 use Rattle.book_model.specs.Book.{Book, Edited, edited}
 use Rattle.book_model.specs.Readings.{Reading}
-use Rattle.book_model.specs.Files.{ProjectFile, names_of}
+use Rattle.book_model.specs.Files.{ProjectFile}
+use Rattle.book_model.specs.Queries.{names_query}
 use Rattle.book_model.specs.Labels.{label_of}
 use Rattle.book_model.specs.Printed.{place_text}
 use Rattle.book_model.specs.Places.{place_of}
@@ -125,7 +126,7 @@ pub dropped_twice : edited (book_after book (Command.Drop (codes "c.sysml"))) (e
 dropped_twice = refl
 
 -- shown: names rise in byte order, and one comes before the longer ones that begin like it
-pub ranked_names : names_of (file_with (codes "b.sysml") [] (Reading.Fault (Syntax 0))
+pub ranked_names : names_query (file_with (codes "b.sysml") [] (Reading.Fault (Syntax 0))
     ∷ file_with (codes "a.sysml.sysml") [] (Reading.Fault (Syntax 0))
     ∷ record { name = codes "c.sysml"; library = false; content = None }
     ∷ file_with (codes "a.sysml") [] (Reading.Fault (Syntax 0)) ∷ [])
@@ -187,3 +188,101 @@ pub links_in_circle : answer_of [] circle (Command.Links (codes "a.sysml"))
     ≡ codes "1:13 alias b -> cyclic b.sysml:1:13\nlinks a.sysml 1\n"
 unfolding least stage gather names_from visible_from words signs digits
 links_in_circle = refl
+
+-- Files of one book over a library.
+--   $lib/Parts.sysml  package Parts { part def Part; }
+--   a.sysml           package A { part x; }
+--                     package B { private part x; }
+--                     package C { part p :> x; part q :> B::x; private import A::*; public import Parts::*; }
+--   c.sysml           package C;
+--   b.sysml           part r :> C;
+--                     part s :> $::Parts::Part;
+abbrev pub packages_text : List ℕ
+packages_text =
+    codes "package A { part x; }\npackage B { private part x; }\n"
+    ++ codes "package C { part p :> x; part q :> B::x; private import A::*; public import Parts::*; }\n"
+
+abbrev pub roots_text : List ℕ
+roots_text = codes "part r :> C;\npart s :> $::Parts::Part;\n"
+
+abbrev pub library_model : Data
+library_model = record (data_of 0
+    (root_element ∷ thing kind.Package 0 (codes "Parts") ∷ thing kind.PartDef 1 (codes "Part") ∷ [])
+    (owned 0 1 (codes "Parts") ∷ owned 1 2 (codes "Part") ∷ []) [] [])
+    { member_places = 0 ∷ 16 ∷ []; reference_places = [] }
+
+abbrev pub packages_model : Data
+packages_model = record (data_of 1
+    (root_element
+    ∷ thing kind.Package 0 (codes "A")
+    ∷ thing kind.Part 1 (codes "x")
+    ∷ thing kind.Package 0 (codes "B")
+    ∷ thing kind.Part 3 (codes "x")
+    ∷ thing kind.Package 0 (codes "C")
+    ∷ thing kind.Part 5 (codes "p")
+    ∷ thing kind.Part 5 (codes "q")
+    ∷ [])
+    (owned 0 1 (codes "A")
+    ∷ owned 1 2 (codes "x")
+    ∷ owned 0 3 (codes "B")
+    ∷ owned_as Private 3 4 (Some (codes "x"))
+    ∷ owned 0 5 (codes "C")
+    ∷ owned 5 6 (codes "p")
+    ∷ owned 5 7 (codes "q")
+    ∷ [])
+    (refers role.Import 5 (codes "A" ∷ [])
+    ∷ refers role.Import 5 (codes "Parts" ∷ [])
+    ∷ refers role.Subsetting 6 (codes "x" ∷ [])
+    ∷ refers role.Subsetting 7 (codes "B" ∷ codes "x" ∷ [])
+    ∷ [])
+    (brings Private 5 0 true ∷ brings Public 5 1 true ∷ []))
+    { member_places = 0 ∷ 12 ∷ 22 ∷ 34 ∷ 52 ∷ 64 ∷ 77 ∷ []; reference_places = 108 ∷ 128 ∷ 74 ∷ 87 ∷ [] }
+
+-- `$::Parts::Part`, written in the element of that number
+abbrev pub rooted : Reference
+rooted = record (refers role.Subsetting 2 (codes "Parts" ∷ codes "Part" ∷ [])) { absolute = true }
+
+abbrev pub over_library : List ProjectFile
+over_library =
+    record (file_with (codes "$lib/Parts.sysml") (codes "package Parts { part def Part; }") (Reading.Model library_model))
+    { library = true }
+    ∷ file_with (codes "a.sysml") packages_text (Reading.Model packages_model)
+    ∷ file_with (codes "c.sysml") (codes "package C;\n") (Reading.Model (record (data_of 2
+    (root_element ∷ thing kind.Package 0 (codes "C") ∷ []) (owned 0 1 (codes "C") ∷ []) [] [])
+    { member_places = 0 ∷ [] }))
+    ∷ file_with (codes "b.sysml") roots_text (Reading.Model (record (data_of 3
+    (root_element ∷ thing kind.Part 0 (codes "r") ∷ thing kind.Part 0 (codes "s") ∷ [])
+    (owned 0 1 (codes "r") ∷ owned 0 2 (codes "s") ∷ [])
+    (refers role.Subsetting 1 (codes "C" ∷ []) ∷ rooted ∷ []) [])
+    { member_places = 0 ∷ 13 ∷ []; reference_places = 10 ∷ 23 ∷ [] }))
+    ∷ []
+
+-- shown: rows stand by place where imports are written last, though their references are numbered first
+pub links_by_place : answer_of [] over_library (Command.Links (codes "a.sysml"))
+    ≡ codes "3:23 subset x -> linked a.sysml A::x\n"
+    ++ codes "3:36 subset B::x -> hidden 2 a.sysml:2:13\n"
+    ++ codes "3:57 import A -> linked a.sysml A\n"
+    ++ codes "3:77 import Parts -> linked $lib/Parts.sysml Parts\n"
+    ++ codes "links a.sysml 4\n"
+unfolding least stage gather names_from visible_from words signs digits
+links_by_place = refl
+
+-- shown: two roots of one name, and a name that begins at the roots of all files
+pub links_of_roots : answer_of [] over_library (Command.Links (codes "b.sysml"))
+    ≡ codes "1:11 subset C -> ambiguous 1 a.sysml:3:1 c.sysml:1:1\n"
+    ++ codes "2:11 subset $::Parts::Part -> linked $lib/Parts.sysml Parts::Part\n"
+    ++ codes "links b.sysml 2\n"
+unfolding least stage gather names_from visible_from words signs digits
+links_of_roots = refl
+
+-- shown: what is wrong with them, and that a file of the library isn't one of the book
+pub check_over_library : answer_of [] over_library Command.Check
+    ≡ codes "a.sysml:3:36 subset B::x -> hidden 2 a.sysml:2:13\n"
+    ++ codes "b.sysml:1:11 subset C -> ambiguous 1 a.sysml:3:1 c.sysml:1:1\n"
+    ++ codes "check files 3 references 6 faults 2\n"
+unfolding least stage gather names_from visible_from words signs digits
+check_over_library = refl
+
+pub library_not_listed : answer_of [] over_library (Command.Links (codes "$lib/Parts.sysml"))
+    ≡ codes "links $lib/Parts.sysml no file\n"
+library_not_listed = refl
