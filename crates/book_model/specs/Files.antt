@@ -89,11 +89,25 @@ text_at files number = option_map_or text_of (slice_get files number.0) []
 abbrev pub model_at : List ProjectFile → FileNo → Data
 model_at files number = model_in (slice_get (stored files) number.0)
 
--- what the book holds under the name: a name of the library isn't one of the book
+-- the file is the book's under the name: a name of the library isn't one of the book
+abbrev pub is_under : List ℕ → ProjectFile → Bool
+is_under name f = not f.library && pointwise nat_eq name f.name
+
+-- what the book holds under the name
 abbrev pub content_under : List ProjectFile → List ℕ → Option Content
 content_under [] name = None
-content_under (f ∷ fs) name =
-    cond (not f.library && pointwise nat_eq name f.name) f.content (content_under fs name)
+content_under (f ∷ fs) name = cond (is_under name f) f.content (content_under fs name)
+
+-- the number of the file under the name; a name that is new has the number after the last one
+abbrev pub number_under : List ProjectFile → List ℕ → ℕ
+number_under [] name = 0
+number_under (f ∷ fs) name = cond (is_under name f) 0 (suc (number_under fs name))
+
+-- the files with this under the name; a name that is there keeps its place, and a new one goes last
+abbrev pub with_content : List ProjectFile → List ℕ → Option Content → List ProjectFile
+with_content [] name c = record { name = name; library = false; content = c } ∷ []
+with_content (f ∷ fs) name c =
+    cond (is_under name f) (record f { content = c } ∷ fs) (f ∷ with_content fs name c)
 
 -- a file of the book whose text is present
 pub record Present : Type 0 where

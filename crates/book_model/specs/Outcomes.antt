@@ -1,13 +1,16 @@
 -- What became of each reference, by the least linking of the files.
-use Rattle.std.specs.Prelude.{List, Option, Some, None}
+use Rattle.std.specs.Prelude.{◌≡◌, ◌⊎◌, List, Option, Some, None}
+use Rattle.linker_base.specs.Members.{IsMember}
 use Rattle.element_store.specs.declared.numbers.RefNo.{RefNo}
 use Rattle.element_store.specs.declared.outcome.Outcome.{Outcome}
 use Rattle.element_store.specs.declared.outcome.Outcome.TheVariants.{Absent, Cyclic}
 use Rattle.element_store.specs.declared.models.StoredFile.{StoredFile}
 use Rattle.demand_core.specs.Least.{least, cyclic_on}
+use Rattle.demand_core.specs.Rules.{IsLeastWait}
 use Rattle.link_model.specs.declared.keys.LinkKey.{LinkKey}
 use Rattle.link_model.specs.Keys.{same_key}
-use Rattle.link_model.specs.Linking.{link_meaning}
+use Rattle.link_model.specs.Linking.{ComesBefore, Fits, link_meaning}
+use Rattle.link_model.specs.Outside.{keys_of}
 
 -- what is decided, or else that the reference is cyclic, on the least one on which it waits; a reference that doesn't
 -- stand is absent
@@ -21,3 +24,21 @@ abbrev pub outcome_of : List StoredFile → RefNo → Outcome
 outcome_of files r =
     let key : LinkKey = record { 0 = r } in
     outcome_by (least same_key (link_meaning files) key) (cyclic_on same_key (link_meaning files) key)
+
+-- the outcome is decided by the least linking, and names what stands
+pub record IsDecided (files : List StoredFile) (r : RefNo) (o : Outcome) : Type 0 where
+  pub entry : least same_key (link_meaning files) (record { 0 = r }) ≡ Some o
+  pub fits : Fits files o
+
+-- the least linking leaves the reference open, and the least one on which it waits then, which is open too, is kept
+pub record IsCyclicOn (files : List StoredFile) (r : RefNo) (o : Outcome) : Type 0 where
+  pub on : LinkKey
+  pub kept : o ≡ Cyclic on.0
+  pub left : least same_key (link_meaning files) (record { 0 = r }) ≡ None
+  pub wait : IsLeastWait (ComesBefore files)
+      ((link_meaning files).answer (least same_key (link_meaning files)) (record { 0 = r })) on
+  pub stands : IsMember (keys_of files) on
+  pub open_too : least same_key (link_meaning files) on ≡ None
+
+abbrev pub IsOutcome : List StoredFile → RefNo → Outcome → Type 0
+IsOutcome files r o = IsDecided files r o ⊎ IsCyclicOn files r o
