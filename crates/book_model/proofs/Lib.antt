@@ -1,6 +1,8 @@
+pub mod ChangeLaws
 pub mod EditLaws
 pub mod FileLaws
 pub mod LabelLaws
+pub mod OutcomeLaws
 pub mod PlaceLaws
 pub mod RankedLaws
 pub mod RowLaws

@@ -1,5 +1,6 @@
 -- What the laws of books, files, rows, places and labels say.
 use Rattle.std.specs.Prelude.{◌≡◌, ◌≢◌, ◌⊎◌, ℕ, ◌^◌, ◌<◌, ◌≤◌, false, List, [], ◌∷◌, ◌++◌, map, length, Option, None, Some, IfSome}
+use Rattle.std.specs.Option.{option_map}
 use Rattle.std.specs.Map.{keys_of}
 use Rattle.std.specs.Cmp.Lexicographic.{slice_cmp}
 use Rattle.std.specs.Ordering.{nat_cmp}
@@ -12,6 +13,7 @@ use Rattle.element_store.specs.declared.outcome.Language.{Language}
 use Rattle.element_store.specs.Numbers.{places_from}
 use Rattle.element_store.specs.Model.{Data}
 use Rattle.element_store.specs.Condition.{IsModel}
+use Rattle.element_store.specs.Stored.{with_model}
 use Rattle.text_model.specs.declared.fault.FileFault.{FileFault}
 use Rattle.text_model.specs.declared.fault.FileFault.TheVariants.{NoMemory}
 use Rattle.text_model.specs.Profile.{InProfile, IsFaultOf}
@@ -20,8 +22,8 @@ use Rattle.book_model.specs.declared.edit.Edit.TheVariants.{Put, Drop}
 use Rattle.book_model.specs.declared.rows.Place.{Place}
 use Rattle.book_model.specs.declared.rows.LinkRow.{LinkRow}
 use Rattle.book_model.specs.Book.{Book, text_in, bytes_in}
-use Rattle.book_model.specs.Readings.{Reading, IsReading}
-use Rattle.book_model.specs.Files.{LibraryTexts, Entry, entries_of, ProjectFile, Present, present, name_before}
+use Rattle.book_model.specs.Readings.{Reading, IsReading, language_of, model_by}
+use Rattle.book_model.specs.Files.{LibraryTexts, Entry, entries_of, Content, ProjectFile, Present, IsContentOf, number_under, with_content, stored, present, name_before}
 use Rattle.book_model.specs.Places.{place_of}
 use Rattle.book_model.specs.Rows.{Standing, standing}
 
@@ -75,6 +77,26 @@ pub record IsSmall (book : Book) (library : LibraryTexts) : Type 0 where
   pub few : length (entries_of book library) < 2 ^ 32
   pub once : IsEachOnce (map (λ e. e.name) (entries_of book library))
   pub short : (e : Entry) → IsMember (entries_of book library) e → IfSome e.text (λ text. length text < 2 ^ 32)
+
+-- ---- one changed file
+
+-- this is read from the text that an edit puts under the name, or nothing where it is gone
+abbrev pub IsContentUnder : List ProjectFile → List ℕ → Option (List ℕ) → Option Content → Type 0
+IsContentUnder files name text c =
+    IsContentOf (record { 0 = number_under files name }) (language_of name) text c
+
+-- the model that links see there
+abbrev pub model_under : List ProjectFile → List ℕ → Option Content → Option Data
+model_under files name c =
+    option_map (λ x. model_by (record { 0 = number_under files name }) (language_of name) x.reading) c
+
+-- a name that was there has its file's model replaced; a new one has a file after the others
+pub record IsStoredAfter (files : List ProjectFile) (name : List ℕ) (c : Option Content) : Type 0 where
+  pub kept : number_under files name < length files
+      → stored (with_content files name c) ≡ with_model (stored files) (number_under files name) (model_under files name c)
+  pub added : number_under files name ≡ length files
+      → stored (with_content files name c)
+      ≡ stored files ++ record { name = name; library = false; model = model_under files name c } ∷ []
 
 -- ---- the order of files
 
