@@ -55,7 +55,8 @@ names_are (e ∷ es) name text = elim (bool_cases (pointwise nat_eq name e.0)) [
 ]
 
 -- an edit adds its name alone
-names_among : (book : Book) (name x : List ℕ) (text : Option (List ℕ)) → IsMember (keys_of (with_entry book name text)) x → (name ≡ x) ⊎ IsMember (keys_of book) x
+names_among : (book : Book) (name x : List ℕ) (text : Option (List ℕ)) → IsMember (keys_of (with_entry book name text)) x → (name ≡ x)
+    ⊎ IsMember (keys_of book) x
 names_among [] name x text (inl e) = inl e
 names_among [] name x text (inr m) = absurd m
 names_among (e ∷ es) name x text m = elim (bool_cases (pointwise nat_eq name e.0)) [
@@ -96,16 +97,19 @@ record HasPassed (book : Book) (name text : List ℕ) (changed : Book) : Type 0 
   bytes : nat_lt BOOK_BYTES (bytes_in (put_in book name text)) ≡ false
 
 put_passed : (book : Book) (name text : List ℕ) (changed : Book) → edited book (Put name text) ≡ Edited.Changed changed → HasPassed book name text changed
-put_passed book name text changed e = passed (nat_lt FILE_BYTES (length text)) (nat_lt NAMES (length (put_in book name text))) (nat_lt BOOK_BYTES (bytes_in (put_in book name text))) refl refl e where
-  passed : (a b c : Bool) → b ≡ nat_lt NAMES (length (put_in book name text)) → c ≡ nat_lt BOOK_BYTES (bytes_in (put_in book name text))
-      → cond a (Edited.Limit FILE_BYTES) (cond b (Edited.Limit NAMES) (cond c (Edited.Limit BOOK_BYTES) (Edited.Changed (put_in book name text)))) ≡ Edited.Changed changed
-      → HasPassed book name text changed
-  passed true b c p q e = absurd (cc)
-  passed false true c p q e = absurd (cc)
-  passed false false true p q e = absurd (cc)
-  passed false false false p q e = record { same = changed_same (put_in book name text) changed e; names = sym p; bytes = sym q }
+put_passed book name text changed e = passed (nat_lt FILE_BYTES (length text)) (nat_lt NAMES (length (put_in book name text)))
+    (nat_lt BOOK_BYTES (bytes_in (put_in book name text))) refl refl e where
+      passed : (a b c : Bool) → b ≡ nat_lt NAMES (length (put_in book name text)) → c ≡ nat_lt BOOK_BYTES (bytes_in (put_in book name text))
+          → cond a (Edited.Limit FILE_BYTES) (cond b (Edited.Limit NAMES) (cond c (Edited.Limit BOOK_BYTES) (Edited.Changed (put_in book name text))))
+          ≡ Edited.Changed changed
+          → HasPassed book name text changed
+      passed true b c p q e = absurd (cc)
+      passed false true c p q e = absurd (cc)
+      passed false false true p q e = absurd (cc)
+      passed false false false p q e = record { same = changed_same (put_in book name text) changed e; names = sym p; bytes = sym q }
 
-drop_passed : (book : Book) (name : List ℕ) (text : Option (List ℕ)) (changed : Book) → dropped book name text ≡ Edited.Changed changed → with_entry book name None ≡ changed
+drop_passed : (book : Book) (name : List ℕ) (text : Option (List ℕ)) (changed : Book) → dropped book name text ≡ Edited.Changed changed
+    → with_entry book name None ≡ changed
 drop_passed book name None changed e = absurd (cc)
 drop_passed book name (Some text) changed e = changed_same (with_entry book name None) changed e
 

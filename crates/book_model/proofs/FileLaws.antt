@@ -50,15 +50,18 @@ one_list h n (e ∷ es) (f ∷ fs) (g ∷ gs) p q =
     λ j. a j ∷ b j
 
 -- a book over a library has one list of files
-pub one_files : OneReading → (book : Book) (library : LibraryTexts) (fs gs : List ProjectFile) → AreFilesOf book library fs → AreFilesOf book library gs → fs ≡ gs
+pub one_files : OneReading → (book : Book) (library : LibraryTexts) (fs gs : List ProjectFile) → AreFilesOf book library fs → AreFilesOf book library gs
+    → fs ≡ gs
 one_files h book library fs gs p q = one_list h 0 (entries_of book library) fs gs p q
 
 -- so a command has one answer, and commands have one list of answers
-pub one_answer : OneReading → (library : LibraryTexts) (book : Book) (c : Command) (a b : List ℕ) → IsAnswer library book c a → IsAnswer library book c b → a ≡ b
+pub one_answer : OneReading → (library : LibraryTexts) (book : Book) (c : Command) (a b : List ℕ) → IsAnswer library book c a → IsAnswer library book c b
+    → a ≡ b
 one_answer h library book c a b p q =
     p.stands ∙ (ap (λ files. answer_of book files c) (one_files h (book_after book c) library p.files q.files p.are q.are) ∙ sym q.stands)
 
-pub one_answers : OneReading → (library : LibraryTexts) (book : Book) (cs : List Command) (a b : List ℕ) → AreAnswers library book cs a → AreAnswers library book cs b → a ≡ b
+pub one_answers : OneReading → (library : LibraryTexts) (book : Book) (cs : List Command) (a b : List ℕ) → AreAnswers library book cs a
+    → AreAnswers library book cs b → a ≡ b
 one_answers h library book [] a b p q = p ∙ sym q
 one_answers h library book (c ∷ cs) a b (f, m, is, are, whole) (g, n, is', are', whole') =
     let first : f ≡ g = one_answer h library book c f g is is' in
@@ -67,7 +70,8 @@ one_answers h library book (c ∷ cs) a b (f, m, is, are, whole) (g, n, is', are
 
 -- ---- texts are found
 
-content_text : (file : FileNo) (language : Language) (text : Option (List ℕ)) (c : Option Content) → IsContentOf file language text c → option_map (λ (x : Content). x.text) c ≡ text
+content_text : (file : FileNo) (language : Language) (text : Option (List ℕ)) (c : Option Content) → IsContentOf file language text c
+    → option_map (λ (x : Content). x.text) c ≡ text
 content_text file language None None p = refl
 content_text file language None (Some c) p = absurd p
 content_text file language (Some text) None p = absurd p
@@ -83,7 +87,8 @@ book_entry e = record { name = e.0; library = false; text = e.1 }
 abbrev texts_of : Option Content → Option (List ℕ)
 texts_of c = option_map (λ (x : Content). x.text) c
 
-book_found : (n : ℕ) (book : Book) (files : List ProjectFile) (name : List ℕ) → AreFilesFrom n (map book_entry book) files → texts_of (content_under files name) ≡ text_in book name
+book_found : (n : ℕ) (book : Book) (files : List ProjectFile) (name : List ℕ) → AreFilesFrom n (map book_entry book) files
+    → texts_of (content_under files name) ≡ text_in book name
 book_found n [] [] name are = refl
 book_found n [] (f ∷ fs) name are = absurd are
 book_found n (e ∷ es) [] name are = absurd are
@@ -97,7 +102,8 @@ book_found n (e ∷ es) (f ∷ fs) name are =
     here true p q = p
     here false p q = q
 
-library_found : (n : ℕ) (library : LibraryTexts) (book : Book) (files : List ProjectFile) (name : List ℕ) → AreFilesFrom n (map library_entry library ++ map book_entry book) files
+library_found : (n : ℕ) (library : LibraryTexts) (book : Book) (files : List ProjectFile) (name : List ℕ)
+    → AreFilesFrom n (map library_entry library ++ map book_entry book) files
     → texts_of (content_under files name) ≡ text_in book name
 library_found n [] book files name are = book_found n book files name are
 library_found n (e ∷ es) book [] name are = absurd are

@@ -38,7 +38,8 @@ one_step d is (suc n) e x long at =
     ap (parts_by (parts_within d n) d.language e) at
     ∙ under_same (parts_within d n) (parts_within d (suc n)) (own_part d.language e x) x.owner
     (if_owner x.owner (λ o. o < e) (λ o. parts_within d n o ≡ parts_within d (suc n) o)
-    (λ o lt. let within = slice_get_within d.elements e x at in steps_same d is n (suc n) o (omega (arith, lt, within, long)) (omega (arith, lt, within, long)))
+    (λ o lt. let within = slice_get_within d.elements e x at
+    in steps_same d is n (suc n) o (omega (arith, lt, within, long)) (omega (arith, lt, within, long)))
     (owner_before d.elements e x is.root is.numbering.elements at))
 
 -- the parts of an element

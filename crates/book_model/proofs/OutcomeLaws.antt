@@ -1,6 +1,6 @@
 -- A reference that stands has the entry of the least linking, or is cyclic on the least reference on which it waits.
 use Rattle.std.proofs.Common.{◌≡◌, ◌∙◌, List, [], ◌∷◌, refl, sym, ap, subst, inl, inr}
-use Rattle.std.specs.Prelude.{Option, Some, None}
+use Rattle.std.specs.Prelude.{Some, None}
 use Rattle.linker_base.specs.Members.{IsMember}
 use Rattle.linker_base.specs.Orders.{AreInOrder}
 use Rattle.linker_base.proofs.Cases.{option_cases, some_same}
@@ -23,7 +23,8 @@ use Rattle.link_model.proofs.OrderLemmas.{ordered_links}
 use Rattle.book_model.specs.Outcomes.{outcome_by, outcome_of, IsDecided, IsCyclicOn, IsOutcome}
 
 -- the first of waits in order is the least one
-least_wait : {K V : Type 0} (before : K → K → Type 0) (step : Step K V) (q : K) → ((ks : List K) → step ≡ Waits ks → AreInOrder before ks) → first_wait step ≡ Some q
+least_wait : {K V : Type 0} (before : K → K → Type 0) (step : Step K V) (q : K) → ((ks : List K) → step ≡ Waits ks → AreInOrder before ks)
+    → first_wait step ≡ Some q
     → IsLeastWait before step q
 least_wait before (Done v) q ordered first = absurd (cc)
 least_wait before (Waits []) q ordered first = absurd (cc)
@@ -61,7 +62,11 @@ decided_outcome : (files : List StoredFile) (r : RefNo) → AreFiles files → (
 decided_outcome files r are o entry =
     let key : LinkKey = record { 0 = r } in
     let same : outcome_of files r ≡ o = ap (λ x. outcome_by x (cyclic_on same_key (link_meaning files) key)) entry in
-    subst (IsDecided files r) (sym same) (record { entry = entry; fits = least_fits same_key key_is_exact (link_meaning files) (link_lawful files are) key o entry })
+    subst (IsDecided files r) (sym same) (record {
+      entry = entry;
+      fits =
+          least_fits same_key key_is_exact (link_meaning files) (link_lawful files are) key o entry;
+    })
 
 -- the outcome of a reference that stands
 pub outcome_is : (files : List StoredFile) (r : RefNo) → AreFiles files → IsMember (keys_of files) (record { 0 = r }) → IsOutcome files r (outcome_of files r)

@@ -52,7 +52,8 @@ present_elsewhere : (name : List ℕ) (library : Bool) (c : Option Content) (fs 
 present_elsewhere name true c fs e = refl
 present_elsewhere name false c fs e = absurd (cc)
 
-book_names : (n : ℕ) (book : Book) (files : List ProjectFile) → AreFilesFrom n (map book_entry book) files → (x : List ℕ) → IsMember (names_in files) x → IsMember (keys_of book) x
+book_names : (n : ℕ) (book : Book) (files : List ProjectFile) → AreFilesFrom n (map book_entry book) files → (x : List ℕ) → IsMember (names_in files) x
+    → IsMember (keys_of book) x
 book_names n [] [] are x m = absurd m
 book_names n [] (f ∷ fs) are x m = absurd are
 book_names n (e ∷ es) [] are x m = absurd are
@@ -64,7 +65,8 @@ book_names n (e ∷ es) (f ∷ fs) are x m = elim (present_here f.name f.library
   ]
 ]
 
-book_once : (n : ℕ) (book : Book) (files : List ProjectFile) → IsEachOnce (keys_of book) → AreFilesFrom n (map book_entry book) files → IsEachOnce (names_in files)
+book_once : (n : ℕ) (book : Book) (files : List ProjectFile) → IsEachOnce (keys_of book) → AreFilesFrom n (map book_entry book) files
+    → IsEachOnce (names_in files)
 book_once n [] [] once are = tt
 book_once n [] (f ∷ fs) once are = absurd are
 book_once n (e ∷ es) [] once are = absurd are
@@ -87,5 +89,6 @@ all_once n (e ∷ es) book (f ∷ fs) once are =
 pub ranked_rise : (book : Book) (library : LibraryTexts) (files : List ProjectFile) → IsEachOnce (keys_of book) → AreFilesOf book library files
     → AreInOrder IsBelow (ranked files)
 ranked_rise book library files once are =
-    sharper (λ (f : Present). f.name) IsNotAbove IsBelow (ranked files) (λ f g up other. below_of f.name g.name (slice_cmp nat_cmp f.name g.name) refl up other)
+    sharper (λ (f : Present). f.name) IsNotAbove IsBelow (ranked files)
+    (λ f g up other. below_of f.name g.name (slice_cmp nat_cmp f.name g.name) refl up other)
     (sorted_once (λ (f : Present). f.name) name_before (present files) (all_once 0 library book files once are)) (files_ranked files).order

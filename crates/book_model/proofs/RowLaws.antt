@@ -50,7 +50,11 @@ not_earlier a b h = elim (cases_of a.place b.place) [
   cases_of zero zero = inr (inr refl)
   cases_of zero (suc n) = inl (omega arith)
   cases_of (suc m) zero = inr (inl (omega arith))
-  cases_of (suc m) (suc n) = elim (cases_of m n) [ inl a ↦ inl (omega (arith, a)) | inr b ↦ elim b [ inl c ↦ inr (inl (omega (arith, c))) | inr e ↦ inr (inr (ap suc e)) ] ]
+  cases_of (suc m) (suc n) = elim (cases_of m n) [
+    | inl a ↦ inl
+        (omega (arith, a))
+    | inr b ↦ elim b [ inl c ↦ inr (inl (omega (arith, c))) | inr e ↦ inr (inr (ap suc e)) ]
+  ]
 
 false_of : (b : Bool) → (b ≡ true → ⊥) → b ≡ false
 false_of true h = absurd (h refl)
@@ -65,7 +69,8 @@ one_way a b (inr p) (inr q) = omega (arith, p.1, q.1)
 -- if neither the first stands before the second nor that before the third, the first doesn't stand before the third
 no_way : (a b c : Standing) → stands_earlier a b ≡ false → stands_earlier b c ≡ false → StandsEarlier a c → ⊥
 no_way a b c h k e = step a b c (not_earlier a b h) (not_earlier b c k) e where
-  step : (a b c : Standing) → StandsEarlier b a ⊎ ((a.place ≡ b.place) × (a.number ≡ b.number)) → StandsEarlier c b ⊎ ((b.place ≡ c.place) × (b.number ≡ c.number))
+  step : (a b c : Standing) → StandsEarlier b a ⊎ ((a.place ≡ b.place) × (a.number ≡ b.number)) → StandsEarlier c b
+      ⊎ ((b.place ≡ c.place) × (b.number ≡ c.number))
       → StandsEarlier a c → ⊥
   step a b c (inl (inl p)) (inl (inl q)) (inl e) = omega (arith, p, q, e)
   step a b c (inl (inl p)) (inl (inr q)) (inl e) = omega (arith, p, q.0, e)
@@ -104,7 +109,8 @@ numbers_once n [] ps = tt
 numbers_once n (r ∷ rs) [] = tt
 numbers_once n (r ∷ rs) (p ∷ ps) = (λ m. omega (arith, numbers_above (suc n) rs ps n m), numbers_once (suc n) rs ps)
 
-numbers_are : (n : ℕ) (rs : List Reference) (ps : List ℕ) → length ps ≡ length rs → map (λ (s : Standing). s.number) (standing_from n rs ps) ≡ places_from n rs
+numbers_are : (n : ℕ) (rs : List Reference) (ps : List ℕ) → length ps ≡ length rs
+    → map (λ (s : Standing). s.number) (standing_from n rs ps) ≡ places_from n rs
 numbers_are n [] ps e = refl
 numbers_are n (r ∷ rs) [] e = absurd (omega (arith, e))
 numbers_are n (r ∷ rs) (p ∷ ps) e = ap (λ ks. n ∷ ks) (numbers_are (suc n) rs ps (omega (arith, e)))
@@ -135,7 +141,8 @@ row_numbers : (outcomes : Outcomes) (text : List ℕ) (d : Data) (ss : List Stan
 row_numbers outcomes text d [] = refl
 row_numbers outcomes text d (s ∷ ss) = ap (λ ks. s.number ∷ ks) (row_numbers outcomes text d ss)
 
-pub one_row_each : (outcomes : Outcomes) (text : List ℕ) (d : Data) → length d.reference_places ≡ length d.references → HasOneRowEach d (rows_in outcomes text d)
+pub one_row_each : (outcomes : Outcomes) (text : List ℕ) (d : Data) → length d.reference_places ≡ length d.references
+    → HasOneRowEach d (rows_in outcomes text d)
 one_row_each outcomes text d long =
     let are = row_numbers outcomes text d (rising d) in
     record {

@@ -86,7 +86,8 @@ put_order before law x (y ∷ ys) o = elim (bool_cases (before y x)) [
   )
 ]
 
-pub sorted_order : {A : Type 0} (before : A → A → Bool) → IsStrictWeakOrder before → (xs : List A) → AreInOrder (λ a b. before b a ≡ false) (sorted_by before xs)
+pub sorted_order : {A : Type 0} (before : A → A → Bool) → IsStrictWeakOrder before → (xs : List A)
+    → AreInOrder (λ a b. before b a ≡ false) (sorted_by before xs)
 sorted_order before law [] = tt
 sorted_order before law (x ∷ xs) = put_order before law x (sorted_by before xs) (sorted_order before law xs)
 
@@ -103,7 +104,11 @@ sharper f R S (x ∷ xs) sharp once o = (
 pub order_told : {A B : Type 0} (f : A → B) (R : A → A → Type 0) (S : B → B → Type 0) (xs : List A)
     → ((x y : A) → IsMember xs x → IsMember xs y → R x y → S (f x) (f y)) → AreInOrder R xs → AreInOrder S (map f xs)
 order_told f R S [] over o = tt
-order_told f R S (x ∷ xs) over o = (told_below f R S x xs (λ y m. over x y (inl refl) (inr m)) o.0, order_told f R S xs (λ a b m n. over a b (inr m) (inr n)) o.1) where
+order_told f R S (x ∷ xs) over o = (
+  told_below f R S x xs (λ y m. over x y (inl refl) (inr m)) o.0,
+  order_told f R S xs
+      (λ a b m n. over a b (inr m) (inr n)) o.1,
+) where
   told_below : {A B : Type 0} (f : A → B) (R : A → A → Type 0) (S : B → B → Type 0) (x : A) (ys : List A) → ((y : A) → IsMember ys y → R x y → S (f x) (f y))
       → ((y : A) → IsMember ys y → R x y) → (z : B) → IsMember (map f ys) z → S (f x) z
   told_below f R S x [] over o z m = absurd m

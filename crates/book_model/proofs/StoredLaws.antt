@@ -23,7 +23,8 @@ stored_long n [] (f ∷ fs) are = absurd are
 stored_long n (e ∷ es) [] are = absurd are
 stored_long n (e ∷ es) (f ∷ fs) are = ap suc (stored_long (suc n) es fs are.1)
 
-stored_names : (n : ℕ) (es : List Entry) (fs : List ProjectFile) → AreFilesFrom n es fs → map (λ (e : Entry). e.name) es ≡ map (λ (x : StoredFile). x.name) (stored_from n fs)
+stored_names : (n : ℕ) (es : List Entry) (fs : List ProjectFile) → AreFilesFrom n es fs
+    → map (λ (e : Entry). e.name) es ≡ map (λ (x : StoredFile). x.name) (stored_from n fs)
 stored_names n [] [] are = refl
 stored_names n [] (f ∷ fs) are = absurd are
 stored_names n (e ∷ es) [] are = absurd are
@@ -67,7 +68,8 @@ models_from h n (e ∷ es) (f ∷ fs) are short (suc k) x d at model =
     (own.0 ∙ omega arith, own.1)
 
 -- the files as links see them
-pub stored_are_files : TextsHaveModels → (book : Book) (library : LibraryTexts) (files : List ProjectFile) → IsSmall book library → AreFilesOf book library files
+pub stored_are_files : TextsHaveModels → (book : Book) (library : LibraryTexts) (files : List ProjectFile) → IsSmall book library
+    → AreFilesOf book library files
     → AreFiles (stored files)
 stored_are_files h book library files small are = record {
   few = subst (λ n. n < 2 ^ 32) (sym (stored_long 0 (entries_of book library) files are)) small.few;

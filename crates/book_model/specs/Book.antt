@@ -27,7 +27,7 @@ abbrev pub bytes_in : Book → ℕ
 bytes_in [] = 0
 bytes_in (e ∷ es) = option_map_or length e.1 0 + bytes_in es
 
--- what an edit does: a new book, nothing since there is no text to drop, or a refusal with the number that it would pass
+-- what an edit does: a new book, or nothing since no text is there, or a refusal with the number that it would pass
 pub data Edited : Type 0 where
   Changed : (book : Book) → Edited
   NotThere : Edited

@@ -9,7 +9,7 @@ use Rattle.element_store.specs.BaseRules.{first_of}
 use Rattle.token_core.specs.Spelling.{name_spelling}
 use Rattle.book_model.specs.Spelling.{joined}
 
--- an element's own part: its declared name, or else its declared short name, as it is spelt; or else `#` and its number
+-- an element's own part: its declared name as it is spelt, or else its declared short name, or else `#` and its number
 abbrev pub own_part : Language → ℕ → Element → List ℕ
 own_part language number e =
     option_map_or (name_spelling language) (first_of e.name e.short) (codes "#" ++ decimal number)

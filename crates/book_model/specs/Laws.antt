@@ -21,9 +21,9 @@ use Rattle.book_model.specs.declared.edit.Edit.{Edit}
 use Rattle.book_model.specs.declared.edit.Edit.TheVariants.{Put, Drop}
 use Rattle.book_model.specs.declared.rows.Place.{Place}
 use Rattle.book_model.specs.declared.rows.LinkRow.{LinkRow}
-use Rattle.book_model.specs.Book.{Book, text_in, bytes_in}
+use Rattle.book_model.specs.Book.{Book, text_in, with_entry, bytes_in}
 use Rattle.book_model.specs.Readings.{Reading, IsReading, language_of, model_by}
-use Rattle.book_model.specs.Files.{LibraryTexts, Entry, entries_of, Content, ProjectFile, Present, IsContentOf, number_under, with_content, stored, present, name_before}
+use Rattle.book_model.specs.Files.{LibraryTexts, Entry, entries_of, Content, ProjectFile, Present, IsContentOf, AreFilesOf, content_under, number_under, with_content, stored, present, name_before}
 use Rattle.book_model.specs.Places.{place_of}
 use Rattle.book_model.specs.Rows.{Standing, standing}
 
@@ -90,13 +90,24 @@ abbrev pub model_under : List ProjectFile → List ℕ → Option Content → Op
 model_under files name c =
     option_map (λ x. model_by (record { 0 = number_under files name }) (language_of name) x.reading) c
 
+-- the files of the book with this under the name
+abbrev pub ChangesOneFile : Book → LibraryTexts → List ProjectFile → List ℕ → Type 0
+ChangesOneFile book library files name = (text : Option (List ℕ)) (c : Option Content)
+    → IsContentUnder files name text c → AreFilesOf (with_entry book name text) library (with_content files name c)
+
 -- a name that was there has its file's model replaced; a new one has a file after the others
 pub record IsStoredAfter (files : List ProjectFile) (name : List ℕ) (c : Option Content) : Type 0 where
   pub kept : number_under files name < length files
-      → stored (with_content files name c) ≡ with_model (stored files) (number_under files name) (model_under files name c)
+      → stored (with_content files name c)
+      ≡ with_model (stored files) (number_under files name) (model_under files name c)
   pub added : number_under files name ≡ length files
       → stored (with_content files name c)
       ≡ stored files ++ record { name = name; library = false; model = model_under files name c } ∷ []
+
+-- the name has this content, and every other name its old one
+pub record IsFoundAfter (files : List ProjectFile) (name : List ℕ) (c : Option Content) : Type 0 where
+  pub own : content_under (with_content files name c) name ≡ c
+  pub others : (x : List ℕ) → x ≢ name → content_under (with_content files name c) x ≡ content_under files x
 
 -- ---- the order of files
 

@@ -1,4 +1,4 @@
--- Rows: the references of a file with what became of them, and what is wrong with the files of a book. Whatever decides
+-- Rows: the references of a file with what became of them, and what is wrong with the files of a book. Whatever made
 -- the outcomes, a row shows the one that it is given.
 use Rattle.std.specs.Prelude.{ℕ, ◌-◌, suc, Bool, true, false, ◌&&◌, ◌||◌, not, nat_eq, nat_lt, List, [], ◌∷◌, length, map}
 use Rattle.std.specs.List.{flat_map}

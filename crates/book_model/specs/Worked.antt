@@ -73,7 +73,8 @@ file_with name text reading =
     record { name = name; library = false; content = Some (record { text = text; reading = reading }) }
 
 abbrev pub book : Book
-book = (codes "b.sysml", Some uses_text) ∷ (codes "c.sysml", Some faulty_text) ∷ (codes "a.sysml", Some types_text) ∷ []
+book = (codes "b.sysml", Some uses_text) ∷ (codes "c.sysml", Some faulty_text)
+    ∷ (codes "a.sysml", Some types_text) ∷ []
 
 abbrev pub files : List ProjectFile
 files =
@@ -244,7 +245,8 @@ rooted = record (refers role.Subsetting 2 (codes "Parts" ∷ codes "Part" ∷ []
 
 abbrev pub over_library : List ProjectFile
 over_library =
-    record (file_with (codes "$lib/Parts.sysml") (codes "package Parts { part def Part; }") (Reading.Model library_model))
+    record (file_with (codes "$lib/Parts.sysml") (codes "package Parts { part def Part; }")
+    (Reading.Model library_model))
     { library = true }
     ∷ file_with (codes "a.sysml") packages_text (Reading.Model packages_model)
     ∷ file_with (codes "c.sysml") (codes "package C;\n") (Reading.Model (record (data_of 2

@@ -1,22 +1,28 @@
 //! Laws of the book. Each is a function with nothing to run: what it ensures holds of the definitions
 //! alone.
-ghost use Rattle.std.specs.Prelude.{◌≡◌, ◌≤◌, ◌<◌, ℕ, List, Some, length, slice_get, option_map};
-ghost use Rattle.std.specs.Map.{keys_of};
+ghost use Rattle.std.specs.Prelude.{◌≡◌, ◌≤◌, ◌<◌, ℕ, List, Option, Some, length, slice_get, option_map};
+ghost use Rattle.std.specs.Map.{keys_of as names_of};
 ghost use Rattle.element_store.specs.declared.records.Element.{Element};
 ghost use Rattle.element_store.specs.Condition.{IsModel};
 ghost use Rattle.element_store.specs.Model.{Data};
 ghost use Rattle.element_store.specs.Stored.{AreFiles};
-ghost use Rattle.linker_base.specs.Members.{IsEachOnce};
+ghost use Rattle.element_store.specs.declared.models.StoredFile.{StoredFile};
+ghost use Rattle.element_store.specs.declared.numbers.RefNo.{RefNo};
+ghost use Rattle.link_model.specs.Outside.{keys_of};
+ghost use Rattle.linker_base.specs.Members.{IsEachOnce, IsMember};
 ghost use Rattle.linker_base.specs.Orders.{AreInOrder};
 ghost use Rattle.book_model.specs.declared.edit.Edit.{Edit};
 ghost use Rattle.book_model.specs.Answers.{AreAnswers, Command, IsAnswer};
-ghost use Rattle.book_model.specs.Book.{Book, Edited, edited, left_by, text_in};
-ghost use Rattle.book_model.specs.Files.{AreFilesOf, LibraryTexts, ProjectFile};
-ghost use Rattle.book_model.specs.Files.{content_under, ranked, stored};
+ghost use Rattle.book_model.specs.Book.{Book, Edited, edited, left_by, text_in, with_entry};
+ghost use Rattle.book_model.specs.Files.{AreFilesOf, Content, LibraryTexts, ProjectFile};
+ghost use Rattle.book_model.specs.Files.{content_under, ranked, stored, with_content};
 ghost use Rattle.book_model.specs.Labels.{own_part, parts_of, parts_under};
-ghost use Rattle.book_model.specs.Laws.{AreRanked, AreRising, AreWithin, HasOneOutcome, HasOneRowEach};
+ghost use Rattle.book_model.specs.Laws.{AreRanked, AreRising, AreWithin, ChangesOneFile, HasOneOutcome};
+ghost use Rattle.book_model.specs.Laws.{HasOneRowEach};
 ghost use Rattle.book_model.specs.Laws.{IsBelow, IsDone, IsPrintedBefore, IsRowBefore, IsSmall, IsWithin};
-ghost use Rattle.book_model.specs.Laws.{OneReading, TextsHaveModels};
+ghost use Rattle.book_model.specs.Laws.{IsContentUnder, IsFoundAfter, IsStoredAfter, OneReading};
+ghost use Rattle.book_model.specs.Laws.{TextsHaveModels};
+ghost use Rattle.book_model.specs.Outcomes.{IsOutcome, outcome_of};
 ghost use Rattle.book_model.specs.Rows.{Outcomes, rising, rows_in};
 
 /// A law: an edit that is refused, or finds nothing to drop, changes nothing. Any other leaves its text
@@ -55,6 +61,18 @@ pub fn texts_are_found()
         → option_map (λ c. c.text) (content_under files name) ≡ text_in book name }
 {}
 
+/// A law: an edit of one entry changes one file, or adds one after the others: its name has the new
+/// content and every other its old one, and links see one model replaced, or one file more.
+pub fn edits_change_one_file()
+    ensures files { (book : Book) (library : LibraryTexts) (files : List ProjectFile)
+        (name : List ℕ) → AreFilesOf book library files
+        → ChangesOneFile book library files name }
+    ensures found { (files : List ProjectFile) (name : List ℕ) (c : Option Content)
+        → IsFoundAfter files name c }
+    ensures stored { (files : List ProjectFile) (name : List ℕ) (c : Option Content)
+        → IsStoredAfter files name c }
+{}
+
 /// A law: where the models of texts are models, the files of a book are files as the laws of links want
 /// them.
 pub fn stored_files_are_files()
@@ -62,12 +80,19 @@ pub fn stored_files_are_files()
         → IsSmall book library × AreFilesOf book library files → AreFiles (stored files) }
 {}
 
+/// A law: a reference that stands has the entry of the least linking, which names what stands; or it is
+/// cyclic, on the least reference on which it waits, and that is open too.
+pub fn references_have_outcomes()
+    ensures { (files : List StoredFile) (r : RefNo) → AreFiles files
+        → IsMember (keys_of files) (record { 0 = r }) → IsOutcome files r (outcome_of files r) }
+{}
+
 /// A law: the present files are ranked in byte order of their names, and where each name stands once in
 /// the book these names rise.
 pub fn files_are_ranked()
     ensures order { (files : List ProjectFile) → AreRanked files (ranked files) }
     ensures rising { (book : Book) (library : LibraryTexts) (files : List ProjectFile)
-        → IsEachOnce (keys_of book) → AreFilesOf book library files
+        → IsEachOnce (names_of book) → AreFilesOf book library files
         → AreInOrder IsBelow (ranked files) }
 {}
 
