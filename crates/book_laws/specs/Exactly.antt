@@ -1,0 +1,17 @@
+-- There is one, and one alone.
+use Rattle.std.specs.Prelude.{◌≡◌, ℕ, List}
+use Rattle.book_model.specs.Answers.{Command, AreAnswers}
+use Rattle.book_model.specs.Book.{Book}
+use Rattle.book_model.specs.Files.{AreFilesOf, LibraryTexts, ProjectFile}
+
+-- there are files of the book over the library, and others are the same
+pub record HasOneListOfFiles (book : Book) (library : LibraryTexts) : Type 0 where
+  pub files : List ProjectFile
+  pub are : AreFilesOf book library files
+  pub alone : (others : List ProjectFile) → AreFilesOf book library others → others ≡ files
+
+-- there are answers of the commands, and others are the same
+pub record HasOneAnswer (library : LibraryTexts) (book : Book) (commands : List Command) : Type 0 where
+  pub answers : List ℕ
+  pub are : AreAnswers library book commands answers
+  pub alone : (others : List ℕ) → AreAnswers library book commands others → others ≡ answers
