@@ -69,7 +69,8 @@ answers_once library book cs =
 texts_have_models : TextsHaveModels
 texts_have_models file language text d short p = subst IsModel (sym p.model) (built_is_model file language text p.tokens p.tree short p.read p.within)
 
-pub book_files : (book : Book) (library : LibraryTexts) (files : List ProjectFile) → IsSmall book library → AreFilesOf book library files → AreFiles (stored files)
+pub book_files : (book : Book) (library : LibraryTexts) (files : List ProjectFile) → IsSmall book library → AreFilesOf book library files
+    → AreFiles (stored files)
 book_files = stored_are_files texts_have_models
 
 pub book_outcome : (book : Book) (library : LibraryTexts) (files : List ProjectFile) (r : RefNo) → IsSmall book library → AreFilesOf book library files

@@ -1,1 +1,2 @@
 pub mod ExactlyLaws
+pub mod TextLaws

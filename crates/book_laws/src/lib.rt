@@ -4,4 +4,6 @@
 
 mod laws;
 
-pub use laws::{book_has_files, book_references_have_outcomes, commands_have_answers};
+pub use laws::{
+    book_has_files, book_references_have_outcomes, commands_have_answers, rows_of_texts_rise,
+};
