@@ -11,7 +11,8 @@ use Rattle.linker_base.proofs.Cases.{bool_cases}
 use Rattle.book_model.specs.declared.edit.Edit.{Edit}
 use Rattle.book_model.specs.declared.edit.Edit.TheVariants.{Put, Drop}
 use Rattle.book_model.specs.Book.{Book, text_in, with_entry, put_in, bytes_in, Edited, dropped, edited, left_by}
-use Rattle.book_model.specs.Laws.{name_in, text_after, IsDone, IsWithin}
+use Rattle.book_model.specs.Laws.{name_in, text_after, IsDone}
+use Rattle.book_model.specs.Proper.{IsWithin}
 
 -- the test of names is that of equality
 same_name : (x y : List ℕ) → pointwise nat_eq x y ≡ true → x ≡ y
@@ -65,7 +66,7 @@ names_among (e ∷ es) name x text m = elim (bool_cases (pointwise nat_eq name e
 ]
 
 -- and leaves each name once
-names_once : (book : Book) (name : List ℕ) (text : Option (List ℕ)) → IsEachOnce (keys_of book) → IsEachOnce (keys_of (with_entry book name text))
+pub names_once : (book : Book) (name : List ℕ) (text : Option (List ℕ)) → IsEachOnce (keys_of book) → IsEachOnce (keys_of (with_entry book name text))
 names_once [] name text once = (λ m. m, tt)
 names_once (e ∷ es) name text once = elim (bool_cases (pointwise nat_eq name e.0)) [
   | inl is ↦ rw is once
@@ -91,24 +92,28 @@ changed_same : (a b : Book) → Edited.Changed a ≡ Edited.Changed b → a ≡ 
 changed_same a b e = cc
 
 -- what was not refused passed the three tests
-record HasPassed (book : Book) (name text : List ℕ) (changed : Book) : Type 0 where
-  same : put_in book name text ≡ changed
-  names : nat_lt NAMES (length (put_in book name text)) ≡ false
-  bytes : nat_lt BOOK_BYTES (bytes_in (put_in book name text)) ≡ false
+pub record HasPassed (book : Book) (name text : List ℕ) (changed : Book) : Type 0 where
+  pub size : nat_lt FILE_BYTES (length text) ≡ false
+  pub same : put_in book name text ≡ changed
+  pub names : nat_lt NAMES (length (put_in book name text)) ≡ false
+  pub bytes : nat_lt BOOK_BYTES (bytes_in (put_in book name text)) ≡ false
 
-put_passed : (book : Book) (name text : List ℕ) (changed : Book) → edited book (Put name text) ≡ Edited.Changed changed → HasPassed book name text changed
-put_passed book name text changed e = passed (nat_lt FILE_BYTES (length text)) (nat_lt NAMES (length (put_in book name text)))
-    (nat_lt BOOK_BYTES (bytes_in (put_in book name text))) refl refl e where
-      passed : (a b c : Bool) → b ≡ nat_lt NAMES (length (put_in book name text)) → c ≡ nat_lt BOOK_BYTES (bytes_in (put_in book name text))
-          → cond a (Edited.Limit FILE_BYTES) (cond b (Edited.Limit NAMES) (cond c (Edited.Limit BOOK_BYTES) (Edited.Changed (put_in book name text))))
-          ≡ Edited.Changed changed
-          → HasPassed book name text changed
-      passed true b c p q e = absurd (cc)
-      passed false true c p q e = absurd (cc)
-      passed false false true p q e = absurd (cc)
-      passed false false false p q e = record { same = changed_same (put_in book name text) changed e; names = sym p; bytes = sym q }
+pub put_passed : (book : Book) (name text : List ℕ) (changed : Book) → edited book (Put name text) ≡ Edited.Changed changed → HasPassed book name text changed
+put_passed book name text changed e =
+    passed (nat_lt FILE_BYTES (length text)) (nat_lt NAMES (length (put_in book name text)))
+    (nat_lt BOOK_BYTES (bytes_in (put_in book name text))) refl refl refl e
+  where
+    passed : (a b c : Bool) → a ≡ nat_lt FILE_BYTES (length text) → b ≡ nat_lt NAMES (length (put_in book name text))
+        → c ≡ nat_lt BOOK_BYTES (bytes_in (put_in book name text))
+        → cond a (Edited.Limit FILE_BYTES) (cond b (Edited.Limit NAMES) (cond c (Edited.Limit BOOK_BYTES) (Edited.Changed (put_in book name text))))
+        ≡ Edited.Changed changed
+        → HasPassed book name text changed
+    passed true b c o p q e = absurd (cc)
+    passed false true c o p q e = absurd (cc)
+    passed false false true o p q e = absurd (cc)
+    passed false false false o p q e = record { size = sym o; same = changed_same (put_in book name text) changed e; names = sym p; bytes = sym q }
 
-drop_passed : (book : Book) (name : List ℕ) (text : Option (List ℕ)) (changed : Book) → dropped book name text ≡ Edited.Changed changed
+pub drop_passed : (book : Book) (name : List ℕ) (text : Option (List ℕ)) (changed : Book) → dropped book name text ≡ Edited.Changed changed
     → with_entry book name None ≡ changed
 drop_passed book name None changed e = absurd (cc)
 drop_passed book name (Some text) changed e = changed_same (with_entry book name None) changed e

@@ -4,6 +4,7 @@ pub mod FileLaws
 pub mod LabelLaws
 pub mod OutcomeLaws
 pub mod PlaceLaws
+pub mod ProperLaws
 pub mod RankedLaws
 pub mod RowLaws
 pub mod SortingLaws

@@ -7,7 +7,6 @@ use Rattle.std.specs.Ordering.{nat_cmp}
 use Rattle.std.specs.declared.cmp.Ordering.TheVariants.{Less}
 use Rattle.linker_base.specs.Members.{IsMember, SameMembers, IsEachOnce}
 use Rattle.linker_base.specs.Orders.{AreInOrder}
-use Rattle.linker_base.specs.declared.limits.TheConstants.{BOOK_BYTES, NAMES}
 use Rattle.element_store.specs.declared.numbers.FileNo.{FileNo}
 use Rattle.element_store.specs.declared.outcome.Language.{Language}
 use Rattle.element_store.specs.Numbers.{places_from}
@@ -21,7 +20,7 @@ use Rattle.book_model.specs.declared.edit.Edit.{Edit}
 use Rattle.book_model.specs.declared.edit.Edit.TheVariants.{Put, Drop}
 use Rattle.book_model.specs.declared.rows.Place.{Place}
 use Rattle.book_model.specs.declared.rows.LinkRow.{LinkRow}
-use Rattle.book_model.specs.Book.{Book, text_in, with_entry, bytes_in}
+use Rattle.book_model.specs.Book.{Book, text_in, with_entry}
 use Rattle.book_model.specs.Readings.{Reading, IsReading, language_of, model_by}
 use Rattle.book_model.specs.Files.{LibraryTexts, Entry, entries_of, Content, ProjectFile, Present, IsContentOf, AreFilesOf, content_under, number_under, with_content, stored, present, name_before}
 use Rattle.book_model.specs.Places.{place_of}
@@ -45,11 +44,6 @@ pub record IsDone (book : Book) (e : Edit) (changed : Book) : Type 0 where
   pub others : (x : List ℕ) → x ≢ name_in e → text_in changed x ≡ text_in book x
   pub names : (keys_of changed ≡ keys_of book) ⊎ (keys_of changed ≡ keys_of book ++ name_in e ∷ [])
   pub once : IsEachOnce (keys_of book) → IsEachOnce (keys_of changed)
-
--- the book is within its limits
-pub record IsWithin (book : Book) : Type 0 where
-  pub names : length book ≤ NAMES
-  pub bytes : bytes_in book ≤ BOOK_BYTES
 
 -- ---- one reading of each text, and one list of files
 

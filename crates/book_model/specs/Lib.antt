@@ -5,6 +5,7 @@ pub mod Labels
 pub mod Outcomes
 pub mod Places
 pub mod Printed
+pub mod Proper
 pub mod Queries
 pub mod Readings
 pub mod Rows

@@ -1,6 +1,6 @@
 //! Laws of the book. Each is a function with nothing to run: what it ensures holds of the definitions
 //! alone.
-ghost use Rattle.std.specs.Prelude.{◌≡◌, ◌≤◌, ◌<◌, ℕ, List, Option, Some, length, slice_get, option_map};
+ghost use Rattle.std.specs.Prelude.{◌≡◌, [], true, ◌≤◌, ◌<◌, ℕ, List, Option, Some, length, slice_get, option_map};
 ghost use Rattle.std.specs.Map.{keys_of as names_of};
 ghost use Rattle.element_store.specs.declared.records.Element.{Element};
 ghost use Rattle.element_store.specs.Condition.{IsModel};
@@ -19,9 +19,11 @@ ghost use Rattle.book_model.specs.Files.{content_under, ranked, stored, with_con
 ghost use Rattle.book_model.specs.Labels.{own_part, parts_of, parts_under};
 ghost use Rattle.book_model.specs.Laws.{AreRanked, AreRising, AreWithin, ChangesOneFile, HasOneOutcome};
 ghost use Rattle.book_model.specs.Laws.{HasOneRowEach};
-ghost use Rattle.book_model.specs.Laws.{IsBelow, IsDone, IsPrintedBefore, IsRowBefore, IsSmall, IsWithin};
+ghost use Rattle.book_model.specs.Laws.{IsBelow, IsDone, IsPrintedBefore, IsRowBefore, IsSmall};
+ghost use Rattle.book_model.specs.Proper.{IsProperBook, IsProperLibrary, IsWithin};
 ghost use Rattle.book_model.specs.Laws.{IsContentUnder, IsFoundAfter, IsStoredAfter, OneReading};
-ghost use Rattle.book_model.specs.Laws.{TextsHaveModels};
+ghost use Rattle.book_model.specs.Laws.{name_in, TextsHaveModels};
+ghost use Rattle.element_store.specs.FileNames.{is_file_name};
 ghost use Rattle.book_model.specs.Outcomes.{IsOutcome, outcome_of};
 ghost use Rattle.book_model.specs.Rows.{Outcomes, rising, rows_in};
 
@@ -37,6 +39,17 @@ pub fn edits_are_exact()
         → edited book e ≡ Edited.Changed changed → IsDone book e changed }
     ensures within { (book : Book) (e : Edit) (changed : Book) → IsWithin book
         → edited book e ≡ Edited.Changed changed → IsWithin changed }
+{}
+
+/// A law: the books that edits of the names of files make from the empty one are proper, and over a
+/// proper library such a book is small.
+pub fn edited_books_are_proper()
+    ensures empty { IsProperBook [] }
+    ensures kept { (book : Book) (e : Edit) (changed : Book)
+        → IsProperBook book × (is_file_name (name_in e) ≡ true)
+        → edited book e ≡ Edited.Changed changed → IsProperBook changed }
+    ensures small { (book : Book) (library : LibraryTexts) → IsProperBook book
+        → IsProperLibrary library → IsSmall book library }
 {}
 
 /// A law: where texts have one outcome, a book over a library has at most one list of files.
