@@ -27,6 +27,7 @@ use Rattle.book_laws.specs.Exactly.{HasOneListOfFiles, HasOneAnswer}
 read_once : OneReading
 read_once = one_reading (record { model = one_model; either = model_or_fault; fault = one_fault })
 
+-- an outcome is a reading
 reading_by : (file : FileNo) (language : Language) (text : List ℕ) → HasOutcome file language text → (r : Reading) × IsReading file language text r
 reading_by file language text (inl h) = (Reading.Model h.0, h.1)
 reading_by file language text (inr h) = (Reading.Fault h.0, (h.2, h.1))
@@ -38,6 +39,7 @@ content_of file language (Some text) =
     let read = reading_by file language text (some_outcome file language text) in
     (Some (record { text = text; reading = read.0 }), (refl, read.1))
 
+-- each entry has a file
 files_from : (n : ℕ) (es : List Entry) → (fs : List ProjectFile) × AreFilesFrom n es fs
 files_from n [] = ([], tt)
 files_from n (e ∷ es) =
@@ -51,6 +53,7 @@ files_once book library =
     let some = files_from 0 (entries_of book library) in
     record { files = some.0; are = some.1; alone = λ others are. one_files read_once book library others some.0 are some.1 }
 
+-- each command has an answer
 answers_from : (library : LibraryTexts) (book : Book) (cs : List Command) → (answers : List ℕ) × AreAnswers library book cs answers
 answers_from library book [] = ([], refl)
 answers_from library book (c ∷ cs) =
@@ -69,10 +72,12 @@ answers_once library book cs =
 texts_have_models : TextsHaveModels
 texts_have_models file language text d short p = subst IsModel (sym p.model) (built_is_model file language text p.tokens p.tree short p.read p.within)
 
+-- the files of a small book are files as links want them
 pub book_files : (book : Book) (library : LibraryTexts) (files : List ProjectFile) → IsSmall book library → AreFilesOf book library files
     → AreFiles (stored files)
 book_files = stored_are_files texts_have_models
 
+-- so their references have outcomes
 pub book_outcome : (book : Book) (library : LibraryTexts) (files : List ProjectFile) (r : RefNo) → IsSmall book library → AreFilesOf book library files
     → IsMember (keys_of (stored files)) (record { 0 = r }) → IsOutcome (stored files) r (outcome_of (stored files) r)
 book_outcome book library files r small are member = outcome_is (stored files) r (book_files book library files small are) member

@@ -29,6 +29,7 @@ apart_le : (here there : ℕ) (ts : List Token) → StandApart here ts there →
 apart_le here there [] h = h
 apart_le here there (t ∷ ts) h = omega (arith, h.0, h.1, apart_le t.upto there ts h.2)
 
+-- each of them begins before the end
 apart_below : (here there : ℕ) (ts : List Token) → StandApart here ts there → (t : Token) → IsMember ts t → t.«from» ≤ there
 apart_below here there [] h t m = absurd m
 apart_below here there (u ∷ ts) h t (inl e) = let le = apart_le u.upto there ts h.2 in subst (λ (v : Token). v.«from» ≤ there) e (omega (arith, h.1, le))
@@ -41,10 +42,12 @@ take_among (suc n) [] x m = absurd m
 take_among (suc n) (y ∷ xs) x (inl e) = inl e
 take_among (suc n) (y ∷ xs) x (inr m) = inr (take_among n xs x m)
 
+-- what an element doesn't take is among the tokens
 unless_among : (a : Action) (ts : List Token) (x : Token) → IsMember (unless_element a ts) x → IsMember ts x
 unless_among (action.Element k) ts x m = absurd m
 unless_among other ts x m = m
 
+-- the own tokens of a forest are among its tokens
 own_among : (t : Tables) (f : Forest) (ts : List Token) (x : Token) → IsMember (own_tokens t f ts) x → IsMember ts x
 own_among t Nothing ts x m = absurd m
 own_among t (Leaf k rest) ts x m = elim (member_cases (take 1 ts) (own_tokens t rest (drop 1 ts)) x m) [
@@ -57,12 +60,14 @@ own_among t (Node p below rest) ts x m = elim (member_cases (unless_element (act
       | inr h ↦ member_drop (length (kinds_in below)) ts x (own_among t rest (behind below ts) x h)
     ]
 
+-- an element of a production has the own tokens of that
 element_own : (a : Action) (around : ℕ) (own : List Token) (w : Written) → IsMember (element_of a around own) w → (x : Token) → IsMember w.own x
     → IsMember own x
 element_own (action.Element k) around own w (inl e) x m = subst (λ (v : Written). IsMember v.own x) (sym e) m
 element_own (action.Element k) around own w (inr h) x m = absurd h
 element_own other around own w h x m = absurd h
 
+-- the own tokens of the elements below are tokens too
 elements_among : (t : Tables) (around n : ℕ) (f : Forest) (ts : List Token) (w : Written) → IsMember (elements_in t around n f ts) w
     → (x : Token) → IsMember w.own x → IsMember ts x
 elements_among t around n Nothing ts w h x m = absurd h
@@ -79,10 +84,12 @@ elements_among t around n (Node p below rest) ts w h x m =
       ]
     ]
 
+-- so are those of the root and of all elements
 written_among : (t : Tables) (f : Forest) (ts : List Token) (w : Written) → IsMember (written t f ts) w → (x : Token) → IsMember w.own x → IsMember ts x
 written_among t f ts w (inl e) x m = own_among t f ts x (subst (λ (v : Written). IsMember v.own x) (sym e) m)
 written_among t f ts w (inr h) x m = elements_among t 0 1 f ts w h x m
 
+-- what stands at a place is among all
 get_among : {A : Type 0} (xs : List A) (n : ℕ) (x : A) → slice_get xs n ≡ Some x → IsMember xs x
 get_among [] n x e = absurd (cc)
 get_among (y ∷ xs) zero x e = inl (some_same y x e)
@@ -97,6 +104,7 @@ place_below (t ∷ ts) place there (inl e) h = omega (arith, e, h t (inl refl_of
   refl_of i = t
 place_below (t ∷ ts) place there (inr m) h = place_below ts place there m (λ u n. h u (inr n))
 
+-- what follows for each pair holds of each second item
 one_each : {A B : Type 0} (P : A → B → Type 0) (Q : B → Type 0) (xs : List A) (ys : List B) → OneByOne P xs ys → ((x : A) (y : B) → P x y → Q y)
     → (y : B) → IsMember ys y → Q y
 one_each P Q [] [] h f y m = absurd m
@@ -115,6 +123,7 @@ places_within file language text d p =
     apart_below 0 (length text) p.tokens (tokens_rise language text p.tokens p.read.lexed) t
     (written_among (tables language) p.tree p.tokens w (get_among ws r.context w at) t m)))
 
+-- so its rows are one each, and rise
 pub text_rows : (file : FileNo) (language : Language) (text : List ℕ) (d : Data) → length text < 2 ^ 32 → InProfile file language text d
     → HasRisingRows text d
 text_rows file language text d short p =

@@ -25,6 +25,7 @@ first_under f fs name c is = (
       (λ b. cond b (record f { content = c } ∷ fs) (f ∷ with_content fs name c)) is,
 )
 
+-- or it is a later one
 later_under : (f : ProjectFile) (fs : List ProjectFile) (name : List ℕ) (c : Option Content) → is_under name f ≡ false
     → (number_under (f ∷ fs) name ≡ suc (number_under fs name)) × (with_content (f ∷ fs) name c ≡ f ∷ with_content fs name c)
 later_under f fs name c is = (
@@ -37,9 +38,11 @@ later_under f fs name c is = (
 book_under : (name entry : List ℕ) (f : ProjectFile) → f.library ≡ false → f.name ≡ entry → is_under name f ≡ pointwise nat_eq name entry
 book_under name entry f own same = ap (λ b. not b && pointwise nat_eq name f.name) own ∙ ap (pointwise nat_eq name) same
 
+-- a file of the library is under no name
 library_under : (name : List ℕ) (f : ProjectFile) → f.library ≡ true → is_under name f ≡ false
 library_under name f other = ap (λ b. not b && pointwise nat_eq name f.name) other
 
+-- the entries of a book
 book_changed : (n : ℕ) (book : Book) (files : List ProjectFile) (name : List ℕ) (text : Option (List ℕ)) (c : Option Content)
     → AreFilesFrom n (map book_entry book) files → Stands n (number_under files name) name text c
     → AreFilesFrom n (map book_entry (with_entry book name text)) (with_content files name c)
@@ -64,6 +67,7 @@ book_changed n (e ∷ es) (f ∷ fs) name text c are is = elim (bool_cases (poin
       rw (far, found.1) (are.0, book_changed (suc n) es fs name text c are.1 numbered)
 ]
 
+-- and those of a library before them, which stay
 all_changed : (n : ℕ) (library : LibraryTexts) (book : Book) (files : List ProjectFile) (name : List ℕ) (text : Option (List ℕ)) (c : Option Content)
     → AreFilesFrom n (map library_entry library ++ map book_entry book) files → Stands n (number_under files name) name text c
     → AreFilesFrom n (map library_entry library ++ map book_entry (with_entry book name text)) (with_content files name c)
@@ -85,6 +89,7 @@ files_changed book library files name text c are is =
 
 -- ---- what links see then
 
+-- the model that links see at a number
 abbrev model_of_number : ℕ → List ℕ → Option Content → Option Data
 model_of_number k name c = option_map (λ (x : Content). model_by (record { 0 = k }) (language_of name) x.reading) c
 
@@ -95,6 +100,7 @@ under_name f name is = (bytes_decides name f.name).0 (by_library f.library is) w
   by_library true e = absurd (cc)
   by_library false e = e
 
+-- the model of a name that was there is replaced
 stored_kept : (n : ℕ) (files : List ProjectFile) (name : List ℕ) (c : Option Content) → number_under files name < length files
     → stored_from n (with_content files name c) ≡ with_model (stored_from n files) (number_under files name)
     (model_of_number (n + number_under files name) name c)
@@ -117,6 +123,7 @@ stored_kept n (f ∷ fs) name c lt = elim (bool_cases (is_under name f)) [
   omega_at : (n : ℕ) → n ≡ n + 0
   omega_at n = omega arith
 
+-- a new name has a file after the others
 stored_added : (n : ℕ) (files : List ProjectFile) (name : List ℕ) (c : Option Content) → number_under files name ≡ length files
     → stored_from n (with_content files name c) ≡ stored_from n files
     ++ record { name = name; library = false; model = model_of_number (n + length files) name c } ∷ []
@@ -149,9 +156,11 @@ stored_changed files name c = record {
 
 -- ---- what is found then
 
+-- a new file is under its name
 new_is_under : (name : List ℕ) (c : Option Content) → is_under name (record { name = name; library = false; content = c }) ≡ true
 new_is_under name c = (bytes_decides name name).1 refl
 
+-- a file under one name isn't under another
 other_under : (f g : ProjectFile) (name x : List ℕ) → (x ≡ name → ⊥) → is_under name f ≡ true → g.name ≡ f.name → is_under x g ≡ false
 other_under f g name x other here same = by_test g.library (pointwise nat_eq x g.name) refl where
   by_test : (library b : Bool) → b ≡ pointwise nat_eq x g.name → (not library && b) ≡ false
@@ -179,5 +188,6 @@ found_others (f ∷ fs) name x c other = elim (bool_cases (is_under name f)) [
   | inr far ↦ rw ((later_under f fs name c far).1) (ap (λ o. cond (is_under x f) f.content o) (found_others fs name x c other))
 ]
 
+-- what is found under all names after an edit
 pub found_changed : (files : List ProjectFile) (name : List ℕ) (c : Option Content) → IsFoundAfter files name c
 found_changed files name c = record { own = found_own files name c; others = λ x other. found_others files name x c other }

@@ -18,9 +18,11 @@ use Rattle.book_model.specs.Proper.{IsWithin}
 same_name : (x y : List ℕ) → pointwise nat_eq x y ≡ true → x ≡ y
 same_name x y h = (bytes_decides x y).0 h
 
+-- each name passes its own test
 own_name : (x : List ℕ) → pointwise nat_eq x x ≡ true
 own_name x = (bytes_decides x x).1 refl
 
+-- and no other
 other_name : (x y : List ℕ) → x ≢ y → pointwise nat_eq x y ≡ false
 other_name x y h = elim (bool_cases (pointwise nat_eq x y)) [ inl e ↦ absurd (h (same_name x y e)) | inr e ↦ e ]
 
@@ -79,6 +81,7 @@ names_once (e ∷ es) name text once = elim (bool_cases (pointwise nat_eq name e
   )
 ]
 
+-- a new entry does what an edit should
 entry_done : (book : Book) (e : Edit) → IsDone book e (with_entry book (name_in e) (text_after e))
 entry_done book e = record {
   own = ap (λ (o : Option (Option (List ℕ))). option_map_or (λ text. text) o None) (found_own book (name_in e) (text_after e));
@@ -98,6 +101,7 @@ pub record HasPassed (book : Book) (name text : List ℕ) (changed : Book) : Typ
   pub names : nat_lt NAMES (length (put_in book name text)) ≡ false
   pub bytes : nat_lt BOOK_BYTES (bytes_in (put_in book name text)) ≡ false
 
+-- a put that changes the book passed them
 pub put_passed : (book : Book) (name text : List ℕ) (changed : Book) → edited book (Put name text) ≡ Edited.Changed changed → HasPassed book name text changed
 put_passed book name text changed e =
     passed (nat_lt FILE_BYTES (length text)) (nat_lt NAMES (length (put_in book name text)))
@@ -113,11 +117,13 @@ put_passed book name text changed e =
     passed false false true o p q e = absurd (cc)
     passed false false false o p q e = record { size = sym o; same = changed_same (put_in book name text) changed e; names = sym p; bytes = sym q }
 
+-- a drop that changes the book found a text
 pub drop_passed : (book : Book) (name : List ℕ) (text : Option (List ℕ)) (changed : Book) → dropped book name text ≡ Edited.Changed changed
     → with_entry book name None ≡ changed
 drop_passed book name None changed e = absurd (cc)
 drop_passed book name (Some text) changed e = changed_same (with_entry book name None) changed e
 
+-- what an edit leaves
 pub edit_done : (book : Book) (e : Edit) (changed : Book) → edited book e ≡ Edited.Changed changed → IsDone book e changed
 edit_done book (Put name text) changed is = subst (IsDone book (Put name text)) (put_passed book name text changed is).same (entry_done book (Put name text))
 edit_done book (Drop name) changed is = subst (IsDone book (Drop name)) (drop_passed book name (text_in book name) changed is) (entry_done book (Drop name))
@@ -130,6 +136,7 @@ drop_names (e ∷ es) name text at = elim (bool_cases (pointwise nat_eq name e.0
   | inr far ↦ rw far (ap suc (drop_names es name text (rw far at at)))
 ]
 
+-- and no book heavier
 drop_bytes : (book : Book) (name : List ℕ) → bytes_in (with_entry book name None) ≤ bytes_in book
 drop_bytes [] name = omega arith
 drop_bytes (e ∷ es) name = elim (bool_cases (pointwise nat_eq name e.0)) [
@@ -137,6 +144,7 @@ drop_bytes (e ∷ es) name = elim (bool_cases (pointwise nat_eq name e.0)) [
   | inr far ↦ rw far (omega (arith, drop_bytes es name))
 ]
 
+-- so it leaves a book within its limits
 drop_within : (book : Book) (name : List ℕ) (text : Option (List ℕ)) → text_in book name ≡ text → IsWithin book → (changed : Book)
     → dropped book name text ≡ Edited.Changed changed → IsWithin changed
 drop_within book name None at w changed is = absurd (cc)
@@ -156,5 +164,6 @@ edit_within book (Drop name) changed w is = drop_within book name (text_in book 
 pub refused_same : (book : Book) (e : Edit) (number : ℕ) → edited book e ≡ Edited.Limit number → left_by book (edited book e) ≡ book
 refused_same book e number is = ap (left_by book) is
 
+-- and so does a drop that finds nothing
 pub missing_same : (book : Book) (e : Edit) → edited book e ≡ Edited.NotThere → left_by book (edited book e) ≡ book
 missing_same book e is = ap (left_by book) is

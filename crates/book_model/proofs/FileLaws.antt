@@ -19,6 +19,7 @@ one_reading h file language text (Reading.Model a) (Reading.Fault b) p q = absur
 one_reading h file language text (Reading.Fault a) (Reading.Model b) p q = absurd (p.0 (h.either file language text b a q p.1))
 one_reading h file language text (Reading.Fault a) (Reading.Fault b) p q = ap Reading.Fault (h.fault language text a b p.1 q.1 p.0 q.0)
 
+-- an entry has one content
 one_content : OneReading → (file : FileNo) (language : Language) (text : Option (List ℕ)) (a b : Option Content) → IsContentOf file language text a
     → IsContentOf file language text b → a ≡ b
 one_content h file language None None None p q = refl
@@ -31,6 +32,7 @@ one_content h file language (Some text) (Some a) (Some b) p q =
     let r : a.reading ≡ b.reading = h file language text a.reading b.reading p.1 q.1 in
     λ j. Some (record { text = t j; reading = r j })
 
+-- and one file
 one_file : OneReading → (number : FileNo) (e : Entry) (f g : ProjectFile) → IsFileOf number e f → IsFileOf number e g → f ≡ g
 one_file h number e f g p q =
     let n : f.name ≡ g.name = p.name ∙ sym q.name in
@@ -38,6 +40,7 @@ one_file h number e f g p q =
     let c : f.content ≡ g.content = one_content h number _ e.text f.content g.content p.content q.content in
     λ j. record { name = n j; library = l j; content = c j }
 
+-- so entries have one list of files
 one_list : OneReading → (n : ℕ) (es : List Entry) (fs gs : List ProjectFile) → AreFilesFrom n es fs → AreFilesFrom n es gs → fs ≡ gs
 one_list h n [] [] [] p q = refl
 one_list h n [] [] (g ∷ gs) p q = absurd q
@@ -60,6 +63,7 @@ pub one_answer : OneReading → (library : LibraryTexts) (book : Book) (c : Comm
 one_answer h library book c a b p q =
     p.stands ∙ (ap (λ files. answer_of book files c) (one_files h (book_after book c) library p.files q.files p.are q.are) ∙ sym q.stands)
 
+-- and commands one list of answers
 pub one_answers : OneReading → (library : LibraryTexts) (book : Book) (cs : List Command) (a b : List ℕ) → AreAnswers library book cs a
     → AreAnswers library book cs b → a ≡ b
 one_answers h library book [] a b p q = p ∙ sym q
@@ -70,6 +74,7 @@ one_answers h library book (c ∷ cs) a b (f, m, is, are, whole) (g, n, is', are
 
 -- ---- texts are found
 
+-- the text of a content is the entry's
 content_text : (file : FileNo) (language : Language) (text : Option (List ℕ)) (c : Option Content) → IsContentOf file language text c
     → option_map (λ (x : Content). x.text) c ≡ text
 content_text file language None None p = refl
@@ -81,12 +86,15 @@ content_text file language (Some text) (Some c) p = ap Some p.0
 abbrev pub library_entry : List ℕ × List ℕ → Entry
 library_entry e = record { name = e.0; library = true; text = Some e.1 }
 
+-- an entry of a book
 abbrev pub book_entry : List ℕ × Option (List ℕ) → Entry
 book_entry e = record { name = e.0; library = false; text = e.1 }
 
+-- the text of what is found
 abbrev texts_of : Option Content → Option (List ℕ)
 texts_of c = option_map (λ (x : Content). x.text) c
 
+-- among the entries of a book its texts are found
 book_found : (n : ℕ) (book : Book) (files : List ProjectFile) (name : List ℕ) → AreFilesFrom n (map book_entry book) files
     → texts_of (content_under files name) ≡ text_in book name
 book_found n [] [] name are = refl
@@ -102,6 +110,7 @@ book_found n (e ∷ es) (f ∷ fs) name are =
     here true p q = p
     here false p q = q
 
+-- and no entry of the library is in their way
 library_found : (n : ℕ) (library : LibraryTexts) (book : Book) (files : List ProjectFile) (name : List ℕ)
     → AreFilesFrom n (map library_entry library ++ map book_entry book) files
     → texts_of (content_under files name) ≡ text_in book name

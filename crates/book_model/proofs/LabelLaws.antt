@@ -14,10 +14,12 @@ under_same : (p q : ℕ → List (List ℕ)) (own : List ℕ) (owner : Option �
 under_same p q own None h = refl
 under_same p q own (Some o) h = ap (λ ps. ps ++ own ∷ []) h
 
+-- what holds of an owner, if there is one
 if_owner : (owner : Option ℕ) (P Q : ℕ → Type 0) → ((o : ℕ) → P o → Q o) → IfSome owner P → IfSome owner Q
 if_owner None P Q f h = h
 if_owner (Some o) P Q f h = f o h
 
+-- parts by two walks that agree on owners
 by_same : (p q : ℕ → List (List ℕ)) (language : Language) (e : ℕ) (x : Option Element) → ((y : Element) → x ≡ Some y → IfSome y.owner (λ o. p o ≡ q o))
     → parts_by p language e x ≡ parts_by q language e x
 by_same p q language e None h = refl
@@ -31,6 +33,7 @@ steps_same d is (suc s) (suc t) e a b = by_same (parts_within d s) (parts_within
     if_owner y.owner (λ o. o < e) (λ o. parts_within d s o ≡ parts_within d t o) (λ o lt. steps_same d is s t o (omega (arith, lt, a)) (omega (arith, lt, b)))
     (owner_before d.elements e y is.root is.numbering.elements at))
 
+-- one step less is enough for an owner
 one_step : (d : Data) → IsModel d → (n e : ℕ) (x : Element) → n ≡ length d.elements → slice_get d.elements e ≡ Some x
     → parts_within d n e ≡ parts_under (parts_within d n) (own_part d.language e x) x.owner
 one_step d is zero e x long at = absurd (omega (arith, long, slice_get_within d.elements e x at))

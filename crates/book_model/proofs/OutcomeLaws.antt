@@ -57,6 +57,7 @@ cyclic_outcome files r are member left =
       open_too = there.0;
     }
 
+-- decided by the least linking: its entry
 decided_outcome : (files : List StoredFile) (r : RefNo) → AreFiles files → (o : Outcome) → least same_key (link_meaning files) (record { 0 = r }) ≡ Some o
     → IsDecided files r (outcome_of files r)
 decided_outcome files r are o entry =

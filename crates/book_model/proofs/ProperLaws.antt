@@ -61,6 +61,7 @@ edit_proper book e changed (proper, good) is = record {
   among : (x : List ℕ × Option (List ℕ)) → IsMember changed x → ((x.0 ≡ name_in e) × (x.1 ≡ text_after e)) ⊎ IsMember book x
   among x m = entry_among book (name_in e) (text_after e) x (subst (λ b. IsMember b x) (sym (changed_is book e changed is)) m)
 
+-- the empty book is proper
 pub empty_proper : IsProperBook []
 empty_proper = record {
   within = record { names = omega arith; bytes = omega arith };
@@ -71,6 +72,7 @@ empty_proper = record {
 
 -- ---- entries
 
+-- as many as names in both
 entries_long : (library : LibraryTexts) (book : Book) → length (map library_entry library ++ map book_entry book) ≡ length library + length book
 entries_long [] [] = omega arith
 entries_long [] (e ∷ es) = let more = entries_long [] es in omega (arith, more)
@@ -85,6 +87,7 @@ name_among [] (e ∷ es) x (inr m) = elim (name_among [] es x m) [ inl a ↦ abs
 name_among (e ∷ es) book x (inl q) = inl (inl q)
 name_among (e ∷ es) book x (inr m) = elim (name_among es book x m) [ inl a ↦ inl (inr a) | inr b ↦ inr b ]
 
+-- the names of the library and of the book stand once
 names_apart : (library : LibraryTexts) (book : Book) → IsEachOnce (map (λ (e : List ℕ × List ℕ). e.0) library) → IsEachOnce (keys_of book)
     → ((e : List ℕ × List ℕ) → IsMember library e → is_file_name e.0 ≡ false) → ((e : List ℕ × Option (List ℕ)) → IsMember book e → is_file_name e.0 ≡ true)
     → IsEachOnce (map (λ (e : Entry). e.name) (map library_entry library ++ map book_entry book))
@@ -110,6 +113,7 @@ if_less : (text : Option (List ℕ)) → IfSome text (λ t. length t ≤ FILE_BY
 if_less None h = h
 if_less (Some t) h = omega (arith, h)
 
+-- the texts of the library and of the book are short
 texts_short : (library : LibraryTexts) (book : Book) → ((e : List ℕ × List ℕ) → IsMember library e → length e.1 ≤ FILE_BYTES)
     → ((e : List ℕ × Option (List ℕ)) → IsMember book e → IfSome e.1 (λ text. length text ≤ FILE_BYTES))
     → (x : Entry) → IsMember (map library_entry library ++ map book_entry book) x → IfSome x.text (λ text. length text < 2 ^ 32)
@@ -120,6 +124,7 @@ texts_short (e ∷ es) book lib own x (inl q) =
     subst (λ (y : Entry). IfSome y.text (λ text. length text < 2 ^ 32)) q (if_less (Some e.1) (lib e (inl refl)))
 texts_short (e ∷ es) book lib own x (inr m) = texts_short es book (λ y n. lib y (inr n)) own x m
 
+-- a proper book over a proper library is small
 pub proper_small : (book : Book) (library : LibraryTexts) → IsProperBook book → IsProperLibrary library → IsSmall book library
 proper_small book library own lib = record {
   few = omega (arith, entries_long library book, own.within.names, lib.few);

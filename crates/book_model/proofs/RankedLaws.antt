@@ -18,6 +18,7 @@ use Rattle.book_model.specs.Laws.{IsNotAbove, IsBelow, AreRanked}
 use Rattle.book_model.proofs.FileLaws.{library_entry, book_entry}
 use Rattle.book_model.proofs.SortingLaws.{sorted_same, sorted_once, sorted_order, sharper}
 
+-- the test of names is one of an order
 names_order : IsStrictWeakOrder name_before
 names_order = ranks_by nat_list_cmp_total (λ (f : Present). f.name)
 
@@ -40,6 +41,7 @@ below_of xs ys Greater e up other =
 abbrev names_in : List ProjectFile → List (List ℕ)
 names_in files = map (λ (f : Present). f.name) (present files)
 
+-- a file of the book adds its name, or none
 present_here : (name : List ℕ) (library : Bool) (c : Option Content) (fs : List ProjectFile) → library ≡ false
     → (map (λ (f : Present). f.name) (present_by name library c ++ present fs) ≡ names_in fs)
     ⊎ (map (λ (f : Present). f.name) (present_by name library c ++ present fs) ≡ name ∷ names_in fs)
@@ -47,11 +49,13 @@ present_here name true c fs e = let bad : true ≡ false = e in absurd (cc)
 present_here name false None fs e = inl refl
 present_here name false (Some c) fs e = inr refl
 
+-- a file of the library adds none
 present_elsewhere : (name : List ℕ) (library : Bool) (c : Option Content) (fs : List ProjectFile) → library ≡ true
     → map (λ (f : Present). f.name) (present_by name library c ++ present fs) ≡ names_in fs
 present_elsewhere name true c fs e = refl
 present_elsewhere name false c fs e = absurd (cc)
 
+-- the names of present files are names of the book
 book_names : (n : ℕ) (book : Book) (files : List ProjectFile) → AreFilesFrom n (map book_entry book) files → (x : List ℕ) → IsMember (names_in files) x
     → IsMember (keys_of book) x
 book_names n [] [] are x m = absurd m
@@ -65,6 +69,7 @@ book_names n (e ∷ es) (f ∷ fs) are x m = elim (present_here f.name f.library
   ]
 ]
 
+-- and stand once where those do
 book_once : (n : ℕ) (book : Book) (files : List ProjectFile) → IsEachOnce (keys_of book) → AreFilesFrom n (map book_entry book) files
     → IsEachOnce (names_in files)
 book_once n [] [] once are = tt
@@ -78,6 +83,7 @@ book_once n (e ∷ es) (f ∷ fs) once are = elim (present_here f.name f.library
   )
 ]
 
+-- also behind a library
 all_once : (n : ℕ) (library : LibraryTexts) (book : Book) (files : List ProjectFile) → IsEachOnce (keys_of book)
     → AreFilesFrom n (map library_entry library ++ map book_entry book) files → IsEachOnce (names_in files)
 all_once n [] book files once are = book_once n book files once are

@@ -26,6 +26,7 @@ earlier_told a b h = elim (bool_cases (nat_lt a.place b.place)) [
   ]
 ]
 
+-- and is passed where that holds
 earlier_shown : (a b : Standing) → StandsEarlier a b → stands_earlier a b ≡ true
 earlier_shown a b (inl lt) = let t : nat_lt a.place b.place ≡ true = grind (arith, nat_tests, lt) in rw t refl
 earlier_shown a b (inr h) =
@@ -56,10 +57,12 @@ not_earlier a b h = elim (cases_of a.place b.place) [
     | inr b ↦ elim b [ inl c ↦ inr (inl (omega (arith, c))) | inr e ↦ inr (inr (ap suc e)) ]
   ]
 
+-- a test that can't be passed is false
 false_of : (b : Bool) → (b ≡ true → ⊥) → b ≡ false
 false_of true h = absurd (h refl)
 false_of false h = refl
 
+-- of two references one alone stands earlier
 one_way : (a b : Standing) → StandsEarlier a b → StandsEarlier b a → ⊥
 one_way a b (inl p) (inl q) = omega (arith, p, q)
 one_way a b (inl p) (inr q) = omega (arith, p, q.0)
@@ -91,6 +94,7 @@ no_way a b c h k e = step a b c (not_earlier a b h) (not_earlier b c k) e where
   step a b c (inl (inr p)) (inr q) (inr e) = omega (arith, p.1, q.1, e.1)
   step a b c (inr p) (inr q) (inr e) = omega (arith, p.1, q.1, e.1)
 
+-- the test is one of an order
 earlier_is_order : IsStrictWeakOrder stands_earlier
 earlier_is_order = record {
   one_way = λ a b h. false_of (stands_earlier b a) (λ k. one_way a b (earlier_told a b h) (earlier_told b a k));
@@ -104,11 +108,13 @@ numbers_above n (r ∷ rs) [] k m = absurd m
 numbers_above n (r ∷ rs) (p ∷ ps) k (inl e) = omega (arith, e)
 numbers_above n (r ∷ rs) (p ∷ ps) k (inr m) = omega (arith, numbers_above (suc n) rs ps k m)
 
+-- and stand once
 numbers_once : (n : ℕ) (rs : List Reference) (ps : List ℕ) → IsEachOnce (map (λ (s : Standing). s.number) (standing_from n rs ps))
 numbers_once n [] ps = tt
 numbers_once n (r ∷ rs) [] = tt
 numbers_once n (r ∷ rs) (p ∷ ps) = (λ m. omega (arith, numbers_above (suc n) rs ps n m), numbers_once (suc n) rs ps)
 
+-- and are all of them where each has a place
 numbers_are : (n : ℕ) (rs : List Reference) (ps : List ℕ) → length ps ≡ length rs
     → map (λ (s : Standing). s.number) (standing_from n rs ps) ≡ places_from n rs
 numbers_are n [] ps e = refl
@@ -141,6 +147,7 @@ row_numbers : (outcomes : Outcomes) (text : List ℕ) (d : Data) (ss : List Stan
 row_numbers outcomes text d [] = refl
 row_numbers outcomes text d (s ∷ ss) = ap (λ ks. s.number ∷ ks) (row_numbers outcomes text d ss)
 
+-- each reference has one row
 pub one_row_each : (outcomes : Outcomes) (text : List ℕ) (d : Data) → length d.reference_places ≡ length d.references
     → HasOneRowEach d (rows_in outcomes text d)
 one_row_each outcomes text d long =
@@ -152,6 +159,7 @@ one_row_each outcomes text d long =
       once = subst IsEachOnce are (sorted_once (λ (s : Standing). s.number) stands_earlier (standing d) (numbers_once 0 d.references d.reference_places));
     }
 
+-- a reference that stands earlier has an earlier row
 row_before : (outcomes : Outcomes) (text : List ℕ) (d : Data) (a b : Standing) → b.place ≤ length text → StandsEarlier a b
     → IsRowBefore (link_row outcomes text d.file a) (link_row outcomes text d.file b)
 row_before outcomes text d a b within (inl lt) = inl (printed_later text a.place b.place lt within)

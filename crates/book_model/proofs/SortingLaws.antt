@@ -12,6 +12,7 @@ use Rattle.book_model.specs.Sorting.{put_by, sorted_by}
 put_later : {A : Type 0} (before : A → A → Bool) (x y : A) (ys : List A) → before y x ≡ true → y ∷ put_by before x ys ≡ put_by before x (y ∷ ys)
 put_later before x y ys e = sym (ap (λ b. cond b (y ∷ put_by before x ys) (x ∷ y ∷ ys)) e)
 
+-- or right before it
 put_here : {A : Type 0} (before : A → A → Bool) (x y : A) (ys : List A) → before y x ≡ false → x ∷ y ∷ ys ≡ put_by before x (y ∷ ys)
 put_here before x y ys e = sym (ap (λ b. cond b (y ∷ put_by before x ys) (x ∷ y ∷ ys)) e)
 
@@ -38,6 +39,7 @@ put_told f before x (y ∷ ys) = elim (bool_cases (before y x)) [
   | inr here ↦ subst (λ zs. SameMembers (map f zs) (f x ∷ f y ∷ map f ys)) (put_here before x y ys here) (same_members (f x ∷ f y ∷ map f ys))
 ]
 
+-- and of sorted items what is told of all
 pub sorted_told : {A B : Type 0} (f : A → B) (before : A → A → Bool) (xs : List A) → SameMembers (map f (sorted_by before xs)) (map f xs)
 sorted_told f before [] = same_members []
 sorted_told f before (x ∷ xs) =
@@ -51,6 +53,7 @@ put_same before x (y ∷ ys) = elim (bool_cases (before y x)) [
   | inr here ↦ subst (λ zs. SameMembers zs (x ∷ y ∷ ys)) (put_here before x y ys here) (same_members (x ∷ y ∷ ys))
 ]
 
+-- sorted items are the same items
 pub sorted_same : {A : Type 0} (before : A → A → Bool) (xs : List A) → SameMembers (sorted_by before xs) xs
 sorted_same before [] = same_members []
 sorted_same before (x ∷ xs) = same_through (put_same before x (sorted_by before xs)) (one_more x (sorted_by before xs) xs (sorted_same before xs))
@@ -67,6 +70,7 @@ put_once f before x (y ∷ ys) o new = elim (bool_cases (before y x)) [
   | inr here ↦ subst (λ zs. IsEachOnce (map f zs)) (put_here before x y ys here) (new, o)
 ]
 
+-- so sorting tells each once
 pub sorted_once : {A B : Type 0} (f : A → B) (before : A → A → Bool) (xs : List A) → IsEachOnce (map f xs) → IsEachOnce (map f (sorted_by before xs))
 sorted_once f before [] o = tt
 sorted_once f before (x ∷ xs) o = put_once f before x (sorted_by before xs) (sorted_once f before xs o.1) (λ m. o.0 ((sorted_told f before xs).left (f x) m))
@@ -86,6 +90,7 @@ put_order before law x (y ∷ ys) o = elim (bool_cases (before y x)) [
   )
 ]
 
+-- sorted items are in order
 pub sorted_order : {A : Type 0} (before : A → A → Bool) → IsStrictWeakOrder before → (xs : List A)
     → AreInOrder (λ a b. before b a ≡ false) (sorted_by before xs)
 sorted_order before law [] = tt

@@ -23,6 +23,7 @@ stored_long n [] (f ∷ fs) are = absurd are
 stored_long n (e ∷ es) [] are = absurd are
 stored_long n (e ∷ es) (f ∷ fs) are = ap suc (stored_long (suc n) es fs are.1)
 
+-- in the same order
 stored_names : (n : ℕ) (es : List Entry) (fs : List ProjectFile) → AreFilesFrom n es fs
     → map (λ (e : Entry). e.name) es ≡ map (λ (x : StoredFile). x.name) (stored_from n fs)
 stored_names n [] [] are = refl
@@ -39,6 +40,7 @@ reading_model : TextsHaveModels → (file : FileNo) (language : Language) (text 
 reading_model h file language text (Reading.Model d) short is = (ap (λ (x : Data). x.file) is.model, h file language text d short is)
 reading_model h file language text (Reading.Fault fault) short is = (refl, bare_is_model file language)
 
+-- and so is that of a content
 content_model : TextsHaveModels → (file : FileNo) (language : Language) (text : Option (List ℕ)) (c : Option Content) (d : Data)
     → IfSome text (λ t. length t < 2 ^ 32) → IsContentOf file language text c → option_map (λ (x : Content). model_by file language x.reading) c ≡ Some d
     → (d.file.0 ≡ file.0) × IsModel d

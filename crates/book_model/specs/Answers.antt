@@ -39,6 +39,7 @@ refusal_of book c = option_map_or (λ e. number_of (edited book e)) (edit_of c) 
 abbrev pub line : List ℕ → List ℕ → List ℕ → List ℕ
 line command name rest = command ++ codes " " ++ name ++ codes " " ++ rest ++ codes "\n"
 
+-- no text is present under the name
 abbrev pub no_file : List ℕ
 no_file = codes "no file"
 
@@ -64,6 +65,7 @@ references_in [] = 0
 references_in (In elements references ∷ more) = references + references_in more
 references_in (Refused fault place ∷ more) = references_in more
 
+-- the rows of what is wrong, and the counts
 abbrev pub check_answer : List ProjectFile → List FileReport → List FaultRow → List ℕ
 check_answer files present rows =
     flat_map (λ row. fault_row_text files row ++ codes "\n") rows
@@ -77,6 +79,7 @@ answer_of book files (Command.Drop name) = drop_answer name (text_in book name)
 answer_of book files (Command.Links name) = links_answer files name (links_query files name)
 answer_of book files Command.Check = check_answer files (reports files) (faults_query files)
 
+-- the answer of a command over a library, whatever files the book has
 pub record IsAnswer (library : LibraryTexts) (book : Book) (c : Command) (answer : List ℕ) : Type 0 where
   pub files : List ProjectFile
   pub are : AreFilesOf (book_after book c) library files

@@ -8,6 +8,7 @@ use Rattle.linker_base.specs.declared.limits.TheConstants.{BOOK_BYTES, FILE_BYTE
 use Rattle.book_model.specs.declared.edit.Edit.{Edit}
 use Rattle.book_model.specs.declared.edit.Edit.TheVariants.{Put, Drop}
 
+-- names with their texts
 abbrev pub Book : Type 0
 Book = List (List ℕ × Option (List ℕ))
 
@@ -19,6 +20,7 @@ text_in book name = option_map_or (λ text. text) (lookup (pointwise nat_eq name
 abbrev pub with_entry : Book → List ℕ → Option (List ℕ) → Book
 with_entry book name text = insert_entry (pointwise nat_eq) book name text
 
+-- the book with this text under the name
 abbrev pub put_in : Book → List ℕ → List ℕ → Book
 put_in book name text = with_entry book name (Some text)
 

@@ -33,6 +33,7 @@ pub record Content : Type 0 where
   pub text : List ℕ
   pub reading : Reading
 
+-- a file of a project, with its content if its text is present
 pub record ProjectFile : Type 0 where
   pub name : List ℕ
   pub library : Bool
@@ -45,6 +46,7 @@ IsContentOf file language (Some text) (Some c) = (c.text ≡ text) × IsReading 
 IsContentOf file language None (Some c) = ⊥
 IsContentOf file language (Some text) None = ⊥
 
+-- the file is that of the entry, with the number
 pub record IsFileOf (number : FileNo) (e : Entry) (f : ProjectFile) : Type 0 where
   pub name : f.name ≡ e.name
   pub library : f.library ≡ e.library
@@ -69,23 +71,28 @@ stored_file number f = record {
   model = option_map (λ c. model_by number (language_of f.name) c.reading) f.content;
 }
 
+-- those of files, where the first has the number n
 abbrev pub stored_from : ℕ → List ProjectFile → List StoredFile
 stored_from n [] = []
 stored_from n (f ∷ fs) = stored_file (record { 0 = n }) f ∷ stored_from (suc n) fs
 
+-- all files as links see them
 abbrev pub stored : List ProjectFile → List StoredFile
 stored files = stored_from 0 files
 
--- the name, the text and the model of the file with that number
+-- the name of the file with that number
 abbrev pub name_at : List ProjectFile → FileNo → List ℕ
 name_at files number = option_map_or (λ f. f.name) (slice_get files number.0) []
 
+-- the text of a file, if one is present
 abbrev pub text_of : ProjectFile → List ℕ
 text_of f = option_map_or (λ c. c.text) f.content []
 
+-- the text of the file with that number
 abbrev pub text_at : List ProjectFile → FileNo → List ℕ
 text_at files number = option_map_or text_of (slice_get files number.0) []
 
+-- the model of the file with that number
 abbrev pub model_at : List ProjectFile → FileNo → Data
 model_at files number = model_in (slice_get (stored files) number.0)
 
@@ -114,17 +121,20 @@ pub record Present : Type 0 where
   pub name : List ℕ
   pub content : Content
 
+-- the file of a name, if it is the book's and has a content
 abbrev pub present_by : List ℕ → Bool → Option Content → List Present
 present_by name false (Some c) = record { name = name; content = c } ∷ []
 present_by name library content = []
 
+-- the files of the book whose texts are present
 abbrev pub present : List ProjectFile → List Present
 present [] = []
 present (f ∷ fs) = present_by f.name f.library f.content ++ present fs
 
--- in byte order of their names
+-- the name of the first file is below that of the second
 abbrev pub name_before : Present → Present → Bool
 name_before f g = is_lt (slice_cmp nat_cmp f.name g.name)
 
+-- the present files in byte order
 abbrev pub ranked : List ProjectFile → List Present
 ranked files = sorted_by name_before (present files)

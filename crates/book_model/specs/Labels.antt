@@ -19,6 +19,7 @@ abbrev pub parts_under : (ℕ → List (List ℕ)) → List ℕ → Option ℕ �
 parts_under parts own None = []
 parts_under parts own (Some owner) = parts owner ++ own ∷ []
 
+-- those of an element that stands there
 abbrev pub parts_by : (ℕ → List (List ℕ)) → Language → ℕ → Option Element → List (List ℕ)
 parts_by parts language number None = []
 parts_by parts language number (Some e) = parts_under parts (own_part language number e) e.owner
@@ -28,6 +29,7 @@ abbrev pub parts_within : Data → ℕ → ℕ → List (List ℕ)
 parts_within d zero e = []
 parts_within d (suc steps) e = parts_by (parts_within d steps) d.language e (slice_get d.elements e)
 
+-- the parts of the path of an element
 abbrev pub parts_of : Data → ℕ → List (List ℕ)
 parts_of d e = parts_within d (length d.elements) e
 

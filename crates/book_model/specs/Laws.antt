@@ -28,11 +28,12 @@ use Rattle.book_model.specs.Rows.{Standing, standing}
 
 -- ---- edits
 
--- the name of which an edit speaks, and the text that stands under it afterwards
+-- the name of which an edit speaks
 abbrev pub name_in : Edit → List ℕ
 name_in (Put name text) = name
 name_in (Drop name) = name
 
+-- the text that stands under the name afterwards
 abbrev pub text_after : Edit → Option (List ℕ)
 text_after (Put name text) = Some text
 text_after (Drop name) = None
@@ -105,10 +106,11 @@ pub record IsFoundAfter (files : List ProjectFile) (name : List ℕ) (c : Option
 
 -- ---- the order of files
 
--- in byte order, the name of the first file isn't above that of the second; and is below it
+-- in byte order, the name of the first file isn't above that of the second
 abbrev pub IsNotAbove : Present → Present → Type 0
 IsNotAbove f g = name_before g f ≡ false
 
+-- in byte order, the name of the first file is below that of the second
 abbrev pub IsBelow : Present → Present → Type 0
 IsBelow f g = slice_cmp nat_cmp f.name g.name ≡ Less
 
@@ -137,6 +139,7 @@ pub record HasOneRowEach (d : Data) (rows : List LinkRow) : Type 0 where
 abbrev pub IsPlaceBefore : Place → Place → Type 0
 IsPlaceBefore p q = (p.line < q.line) ⊎ ((p.line ≡ q.line) × (p.column < q.column))
 
+-- the first row is printed before the second, or at one place with a lesser number
 abbrev pub IsRowBefore : LinkRow → LinkRow → Type 0
 IsRowBefore a b =
     IsPlaceBefore a.place b.place ⊎ ((a.place ≡ b.place) × (a.reference.index < b.reference.index))

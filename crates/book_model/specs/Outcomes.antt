@@ -40,5 +40,6 @@ pub record IsCyclicOn (files : List StoredFile) (r : RefNo) (o : Outcome) : Type
   pub stands : IsMember (keys_of files) on
   pub open_too : least same_key (link_meaning files) on ≡ None
 
+-- the outcome of a reference is decided or cyclic
 abbrev pub IsOutcome : List StoredFile → RefNo → Outcome → Type 0
 IsOutcome files r o = IsDecided files r o ⊎ IsCyclicOn files r o

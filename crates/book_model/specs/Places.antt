@@ -11,5 +11,6 @@ line_at text place = 1 + count_by (λ b. nat_eq b 10) (take place text)
 abbrev pub column_at : List ℕ → ℕ → ℕ
 column_at text place = 1 + prefix_len (λ b. not (nat_eq b 10)) (reverse (take place text))
 
+-- the line and the column of a place
 abbrev pub place_of : List ℕ → ℕ → Place
 place_of text place = record { line = line_at text place; column = column_at text place }

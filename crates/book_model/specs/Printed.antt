@@ -18,9 +18,11 @@ use Rattle.book_model.specs.declared.rows.FileReport.TheVariants.{In, Refused}
 use Rattle.book_model.specs.Files.{ProjectFile, name_at}
 use Rattle.book_model.specs.Queries.{member_place, reference_place, label, text_of_reference}
 
+-- a place, as `LINE:COLUMN`
 abbrev pub place_text : Place → List ℕ
 place_text p = decimal p.line ++ codes ":" ++ decimal p.column
 
+-- the word of a role
 abbrev pub role_text : Role → List ℕ
 role_text role.Subclass = codes "subclass"
 role_text role.Typing = codes "typing"
@@ -33,6 +35,7 @@ role_text role.About = codes "about"
 role_text role.Value = codes "value"
 role_text role.Bound = codes "bound"
 
+-- the name of a fault
 abbrev pub fault_text : FileFault → List ℕ
 fault_text (fault.Encoding place) = codes "Encoding"
 fault_text (fault.Token place) = codes "Token"

@@ -23,30 +23,35 @@ use Rattle.book_model.specs.Spelling.{written_name}
 abbrev pub links_over : List ProjectFile → Outcomes
 links_over files = outcome_of (stored files)
 
--- FILE and LINKS, of the file under a name; none where no text is present
+-- FILE and LINKS, of the file under a name, or none where no text is present: what the book holds
 abbrev pub file_query : List ProjectFile → List ℕ → Option FileReport
 file_query files name = option_map report_of (content_under files name)
 
+-- the rows of that file
 abbrev pub links_query : List ProjectFile → List ℕ → Option (List LinkRow)
 links_query files name = option_map (rows_of (links_over files)) (content_under files name)
 
--- NAMES, REPORTS and FAULTS of the present files, in byte order of their names
+-- NAMES, REPORTS and FAULTS of the present files, in byte order of their names: the names
 abbrev pub names_query : List ProjectFile → List (List ℕ)
 names_query files = map (λ f. f.name) (ranked files)
 
+-- what each of them holds
 abbrev pub reports : List ProjectFile → List FileReport
 reports files = map (λ f. report_of f.content) (ranked files)
 
+-- what is wrong with them
 abbrev pub faults_query : List ProjectFile → List FaultRow
 faults_query files = faults_in (links_over files) files
 
--- PLACES, of a byte of a file, of a member and of a reference
+-- PLACES: the place of a byte of a file
 abbrev pub place_in : List ProjectFile → FileNo → ℕ → Place
 place_in files file at = place_of (text_at files file) at
 
+-- the place of a member
 abbrev pub member_place : List ProjectFile → MemberNo → Place
 member_place files m = place_in files m.file (get_or (model_at files m.file).member_places m.index 0)
 
+-- the place of a reference
 abbrev pub reference_place : List ProjectFile → RefNo → Place
 reference_place files r = place_in files r.file (get_or (model_at files r.file).reference_places r.index 0)
 
@@ -58,6 +63,7 @@ label files e = label_of (model_at files e.file) e.index
 abbrev pub written_in : Data → Reference → List ℕ
 written_in d r = written_name d.language r.absolute r.path r.chain
 
+-- the written name of the reference with that number
 abbrev pub text_of_reference : List ProjectFile → RefNo → List ℕ
 text_of_reference files r =
     let d = model_at files r.file in option_map_or (written_in d) (slice_get d.references r.index) []

@@ -13,6 +13,7 @@ use Rattle.text_model.specs.Profile.{InProfile, IsFaultOf}
 abbrev pub language_of : List ℕ → Language
 language_of name = cond (ends_sysml name) Sysml Kerml
 
+-- the model of a text, or its fault
 pub data Reading : Type 0 where
   Model : (d : Data) → Reading
   Fault : (fault : FileFault) → Reading

@@ -34,6 +34,7 @@ abbrev pub standing_from : ℕ → List Reference → List ℕ → List Standing
 standing_from n (r ∷ rs) (p ∷ ps) = record { number = n; place = p; reference = r } ∷ standing_from (suc n) rs ps
 standing_from n rs ps = []
 
+-- the references of a file in the order of their numbers
 abbrev pub standing : Data → List Standing
 standing d = standing_from 0 d.references d.reference_places
 
@@ -41,6 +42,7 @@ standing d = standing_from 0 d.references d.reference_places
 abbrev pub stands_earlier : Standing → Standing → Bool
 stands_earlier a b = nat_lt a.place b.place || (nat_eq a.place b.place && nat_lt a.number b.number)
 
+-- the references of a file in that order
 abbrev pub rising : Data → List Standing
 rising d = sorted_by stands_earlier (standing d)
 
@@ -57,13 +59,16 @@ link_row outcomes text file s = record {
 abbrev pub rows_in : Outcomes → List ℕ → Data → List LinkRow
 rows_in outcomes text d = map (link_row outcomes text d.file) (rising d)
 
+-- a file with a fault has no rows
 abbrev pub rows_by : Outcomes → List ℕ → Reading → List LinkRow
 rows_by outcomes text (Reading.Model d) = rows_in outcomes text d
 rows_by outcomes text (Reading.Fault fault) = []
 
+-- the rows of a content
 abbrev pub rows_of : Outcomes → Content → List LinkRow
 rows_of outcomes c = rows_by outcomes c.text c.reading
 
+-- the reference is linked
 abbrev pub is_linked : Outcome → Bool
 is_linked (Linked steps e) = true
 is_linked other = false
@@ -74,6 +79,7 @@ faults_by outcomes name text (Reading.Model d) =
     map (Link name) (those_where (λ row. not (is_linked row.outcome)) (rows_in outcomes text d))
 faults_by outcomes name text (Reading.Fault fault) = File name fault (place_of text (fault_place fault)) ∷ []
 
+-- what is wrong with the present files
 abbrev pub faults_in : Outcomes → List ProjectFile → List FaultRow
 faults_in outcomes files = flat_map (λ f. faults_by outcomes f.name f.content.text f.content.reading) (ranked files)
 
@@ -82,5 +88,6 @@ abbrev pub report_by : List ℕ → Reading → FileReport
 report_by text (Reading.Model d) = In (length d.elements - 1) (length d.references)
 report_by text (Reading.Fault fault) = Refused fault (place_of text (fault_place fault))
 
+-- the report of a content
 abbrev pub report_of : Content → FileReport
 report_of c = report_by c.text c.reading

@@ -31,12 +31,15 @@ use Rattle.book_model.specs.Places.{place_of}
 use Rattle.book_model.specs.Spelling.{written_name}
 use Rattle.book_model.specs.Answers.{Command, answer_of, book_after}
 
+-- the text of the first file
 abbrev pub uses_text : List ℕ
 uses_text = codes "part c : 'C c';\npart q :> c.engine;\npart r :> none;\n"
 
+-- a text with a fault
 abbrev pub faulty_text : List ℕ
 faulty_text = codes "part p : ;"
 
+-- a text with two types
 abbrev pub types_text : List ℕ
 types_text = codes "part def V { part engine; }\npart def 'C c' :> V { part :>> engine; }\n"
 
@@ -44,6 +47,7 @@ types_text = codes "part def V { part engine; }\npart def 'C c' :> V { part :>> 
 abbrev pub chained : Reference
 chained = record (refers role.Subsetting 2 (codes "c" ∷ [])) { chain = codes "engine" ∷ [] }
 
+-- the model of the first text
 abbrev pub uses_model : Data
 uses_model = record (data_of 0
     (root_element
@@ -55,6 +59,7 @@ uses_model = record (data_of 0
     (refers role.Typing 1 (codes "C c" ∷ []) ∷ chained ∷ refers role.Subsetting 3 (codes "none" ∷ []) ∷ [])
     []) { member_places = 0 ∷ 16 ∷ 36 ∷ []; reference_places = 9 ∷ 26 ∷ 46 ∷ [] }
 
+-- the model of the third text
 abbrev pub types_model : Data
 types_model = record (data_of 2
     (root_element
@@ -72,10 +77,12 @@ abbrev pub file_with : List ℕ → List ℕ → Reading → ProjectFile
 file_with name text reading =
     record { name = name; library = false; content = Some (record { text = text; reading = reading }) }
 
+-- the book in which they arrived
 abbrev pub book : Book
 book = (codes "b.sysml", Some uses_text) ∷ (codes "c.sysml", Some faulty_text)
     ∷ (codes "a.sysml", Some types_text) ∷ []
 
+-- and its files
 abbrev pub files : List ProjectFile
 files =
     file_with (codes "b.sysml") uses_text (Reading.Model uses_model)
@@ -100,28 +107,32 @@ pub check_of_files : answer_of book files Command.Check
 unfolding least stage gather names_from visible_from words signs digits
 check_of_files = refl
 
--- shown: what puts answer, and what is answered of a name without a text
+-- shown: a put of a text within the profile
 pub put_of_uses : answer_of [] files (Command.Put (codes "b.sysml") uses_text)
     ≡ codes "put b.sysml elements 3 references 3\n"
 unfolding digits
 put_of_uses = refl
 
+-- shown: a put of a text with a fault
 pub put_of_faulty : answer_of [] files (Command.Put (codes "c.sysml") faulty_text)
     ≡ codes "put c.sysml refused 1:10 Syntax\n"
 unfolding digits
 put_of_faulty = refl
 
+-- shown: a name that isn't there
 pub links_without_file : answer_of book files (Command.Links (codes "x.sysml")) ≡ codes "links x.sysml no file\n"
 links_without_file = refl
 
+-- shown: a drop of a text
 pub drop_of_file : answer_of book files (Command.Drop (codes "c.sysml")) ≡ codes "drop c.sysml done\n"
 drop_of_file = refl
 
--- shown: a dropped name keeps its place, and a second drop changes nothing
+-- shown: a dropped name keeps its place
 pub dropped_once : book_after book (Command.Drop (codes "c.sysml"))
     ≡ (codes "b.sysml", Some uses_text) ∷ (codes "c.sysml", None) ∷ (codes "a.sysml", Some types_text) ∷ []
 dropped_once = refl
 
+-- shown: and a second drop changes nothing
 pub dropped_twice : edited (book_after book (Command.Drop (codes "c.sysml"))) (edit.Drop (codes "c.sysml"))
     ≡ Edited.NotThere
 dropped_twice = refl
@@ -134,39 +145,44 @@ pub ranked_names : names_query (file_with (codes "b.sysml") [] (Reading.Fault (S
     ≡ codes "a.sysml" ∷ codes "a.sysml.sysml" ∷ codes "b.sysml" ∷ []
 ranked_names = refl
 
--- shown: where a name needs quotes hangs on the language; escapes, `$::`, and a name with no byte
+-- shown: where a name needs quotes hangs on the language, and `$::` stands first
 pub reserved_in_sysml : written_name Sysml true (codes "part" ∷ codes "in" ∷ codes "x1" ∷ []) []
     ≡ codes "$::'part'::'in'::x1"
 unfolding words
 reserved_in_sysml = refl
 
+-- shown: `part` is no reserved word of KerML
 pub reserved_in_kerml : written_name Kerml true (codes "part" ∷ codes "in" ∷ codes "x1" ∷ []) []
     ≡ codes "$::part::'in'::x1"
 unfolding words
 reserved_in_kerml = refl
 
+-- shown: escapes, the name with no byte, and a name that begins with a digit
 pub escaped_names : written_name Sysml false (codes "it's" ∷ []) ([] ∷ codes "a\nb" ∷ codes "7" ∷ [])
     ≡ codes "'it\\'s'.''.'a\\nb'.'7'"
 unfolding words
 escaped_names = refl
 
--- shown: the root has no part in a label, and its own label is empty
+-- shown: the root has no part in a label
 pub label_below_root : label_of types_model 2 ≡ codes "V::engine"
 unfolding words digits
 label_below_root = refl
 
+-- shown: the root's label is empty
 pub label_of_root : label_of types_model 0 ≡ []
 label_of_root = refl
 
--- shown: places begin at 1:1, and a line feed ends the line in which it stands
+-- shown: places begin at 1:1
 pub place_of_start : place_text (place_of uses_text 0) ≡ codes "1:1"
 unfolding digits
 place_of_start = refl
 
+-- shown: a line feed stands on the line that it ends
 pub place_of_line_feed : place_text (place_of uses_text 15) ≡ codes "1:16"
 unfolding digits
 place_of_line_feed = refl
 
+-- shown: the next line begins behind it
 pub place_behind_it : place_text (place_of uses_text 16) ≡ codes "2:1"
 unfolding digits
 place_behind_it = refl
@@ -203,15 +219,18 @@ packages_text =
     codes "package A { part x; }\npackage B { private part x; }\n"
     ++ codes "package C { part p :> x; part q :> B::x; private import A::*; public import Parts::*; }\n"
 
+-- a text that looks up the roots of all files
 abbrev pub roots_text : List ℕ
 roots_text = codes "part r :> C;\npart s :> $::Parts::Part;\n"
 
+-- the model of the library's file
 abbrev pub library_model : Data
 library_model = record (data_of 0
     (root_element ∷ thing kind.Package 0 (codes "Parts") ∷ thing kind.PartDef 1 (codes "Part") ∷ [])
     (owned 0 1 (codes "Parts") ∷ owned 1 2 (codes "Part") ∷ []) [] [])
     { member_places = 0 ∷ 16 ∷ []; reference_places = [] }
 
+-- the model of the text of packages
 abbrev pub packages_model : Data
 packages_model = record (data_of 1
     (root_element
@@ -243,6 +262,7 @@ packages_model = record (data_of 1
 abbrev pub rooted : Reference
 rooted = record (refers role.Subsetting 2 (codes "Parts" ∷ codes "Part" ∷ [])) { absolute = true }
 
+-- the four files, the library's first
 abbrev pub over_library : List ProjectFile
 over_library =
     record (file_with (codes "$lib/Parts.sysml") (codes "package Parts { part def Part; }")
@@ -285,6 +305,7 @@ pub check_over_library : answer_of [] over_library Command.Check
 unfolding least stage gather names_from visible_from words signs digits
 check_over_library = refl
 
+-- shown: a name of the library is no name of the book
 pub library_not_listed : answer_of [] over_library (Command.Links (codes "$lib/Parts.sysml"))
     ≡ codes "links $lib/Parts.sysml no file\n"
 library_not_listed = refl
