@@ -2,6 +2,7 @@ pub mod ChangeLaws
 pub mod EditLaws
 pub mod FileLaws
 pub mod LabelLaws
+pub mod LiveLaws
 pub mod OutcomeLaws
 pub mod PlaceLaws
 pub mod ProperLaws

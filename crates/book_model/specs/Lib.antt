@@ -2,6 +2,7 @@ pub mod Answers
 pub mod Book
 pub mod Files
 pub mod Labels
+pub mod Live
 pub mod Outcomes
 pub mod Places
 pub mod Printed

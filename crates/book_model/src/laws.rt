@@ -24,6 +24,7 @@ ghost use Rattle.book_model.specs.Proper.{IsProperBook, IsProperLibrary, IsWithi
 ghost use Rattle.book_model.specs.Laws.{IsContentUnder, IsFoundAfter, IsStoredAfter, OneReading};
 ghost use Rattle.book_model.specs.Laws.{name_in, TextsHaveModels};
 ghost use Rattle.element_store.specs.FileNames.{is_file_name};
+ghost use Rattle.book_model.specs.Live.{IsLiveReference, NamesLive};
 ghost use Rattle.book_model.specs.Outcomes.{IsOutcome, outcome_of};
 ghost use Rattle.book_model.specs.Rows.{Outcomes, rising, rows_in};
 
@@ -98,6 +99,16 @@ pub fn stored_files_are_files()
 pub fn references_have_outcomes()
     ensures { (files : List StoredFile) (r : RefNo) → AreFiles files
         → IsMember (keys_of files) (record { 0 = r }) → IsOutcome files r (outcome_of files r) }
+{}
+
+/// A law: the keys of links are live references, and what their outcomes name is live: elements that have
+/// a label, members and references that have a place.
+pub fn outcomes_name_what_stands()
+    ensures keys { (files : List ProjectFile) (r : RefNo)
+        → IsMember (keys_of (stored files)) (record { 0 = r }) → IsLiveReference files r }
+    ensures named { (files : List ProjectFile) (r : RefNo) → AreFiles (stored files)
+        → IsMember (keys_of (stored files)) (record { 0 = r })
+        → NamesLive files (outcome_of (stored files) r) }
 {}
 
 /// A law: the present files are ranked in byte order of their names, and where each name stands once in

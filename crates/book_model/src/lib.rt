@@ -14,6 +14,7 @@ pub use edit::Edit;
 pub use laws::{
     edited_books_are_proper, edits_are_exact, edits_change_one_file, files_are_ranked,
     labels_have_steps, later_places_print_later, one_answer_each, one_list_of_files,
-    references_have_outcomes, rows_are_exact, stored_files_are_files, texts_are_found,
+    outcomes_name_what_stands, references_have_outcomes, rows_are_exact, stored_files_are_files,
+    texts_are_found,
 };
 pub use rows::{FaultRow, FaultRows, FileReport, LinkRow, LinkRows, Place};
