@@ -71,6 +71,7 @@ fits_live files (Ambiguous segment a b) h = h
 fits_live files (Hidden segment m) h = h
 fits_live files (Cyclic r) h = absurd h
 
+-- decided or cyclic, it names what stands
 by_outcome : (files : List ProjectFile) (r : RefNo) → IsOutcome (stored files) r (outcome_of (stored files) r) → NamesLive files (outcome_of (stored files) r)
 by_outcome files r (inl h) = fits_live files (outcome_of (stored files) r) h.fits
 by_outcome files r (inr h) = subst (NamesLive files) (sym h.kept) (key_live files h.on.0 h.stands)
