@@ -33,6 +33,7 @@ pub fn model<'a>(
 ) -> Result<&'a FileModel, NoMemory>
     requires there { HasModel view.now.models.now file }
     ensures stored { IfOk result (λ d. model_of view.now.models.now file.0 ≡ Some d.now) }
+    ensures file { IfOk result (λ d. d.now.file ≡ file) }
     ensures whole { IfOk result (λ d. IsModel d.now) }
     ensures read { IfOk result (λ d. Reads
         (readers.model file (read_by view.now))

@@ -1,0 +1,4 @@
+pub mod Sights
+pub mod BaseStands
+pub mod GeneralLaws
+pub mod RedefinedLaws

@@ -1,0 +1,11 @@
+//! Generals, redefined features and inherited members (KerML 8.3.3.1 and 8.3.3.3, Types and
+//! Features), exact in what they find, wait on and look at.
+#![tactic(auto)]
+
+mod calls;
+mod explicit;
+mod general_types;
+mod redefined;
+mod sight;
+
+pub use calls::{all_redefined, generals, settled_generals, settled_redefined, specialises};
