@@ -1,6 +1,6 @@
 -- From a search to the answer of a call.
-use Rattle.std.proofs.Common.{◌≡◌, Bool, true, false, List, [], refl, sym, ◌∙◌, ap, subst}
-use Rattle.linker_base.specs.Members.{SameMembers}
+use Rattle.std.proofs.Common.{◌≡◌, Bool, true, false, List, [], sym, ◌∙◌, subst}
+use Rattle.linker_base.specs.Members.{IsEachOnce, SameMembers}
 use Rattle.linker_base.proofs.MemberLaws.{same_through}
 use Rattle.demand_core.specs.Computation.{IsRegular}
 use Rattle.demand_core.specs.Search.{IsAsked}
@@ -9,13 +9,15 @@ use Rattle.element_store.specs.declared.numbers.ElementNo.{ElementNo}
 use Rattle.element_store.specs.declared.models.StoredFile.{StoredFile}
 use Rattle.link_model.specs.declared.view.View.{View}
 use Rattle.link_model.specs.Keys.{same_element, element_is_exact, is_in}
-use Rattle.link_model.specs.Readers.{Lookup, LinkWorld, most}
-use Rattle.link_model.specs.Settled.{settled, in_settled, explicit_links}
-use Rattle.link_walk.specs.Calls.{read_by, files_of}
+use Rattle.link_model.specs.Readers.{Lookup, most}
+use Rattle.link_model.specs.Settled.{in_settled, explicit_links}
+use Rattle.link_walk.specs.Calls.{IsAnswer, IsOnce, read_by, files_of}
+use Rattle.link_walk.specs.declared.answering.Found.{Found}
+use Rattle.link_walk.specs.declared.answering.Found.TheVariants as found
 use Rattle.link_walk.specs.Marks.{marked_all}
 use Rattle.link_walk.specs.Noted.{LinkTrail, each_once}
 use Rattle.link_walk.proofs.AnswerLaws.{asked_once, settled_found}
-use Rattle.link_walk.proofs.MarkLaws.{marks_same}
+use Rattle.link_walk.proofs.MarkLaws.{all_once, marks_same}
 use Rattle.inheritance.specs.declared.sight.Sight.{Sight}
 use Rattle.link_model.specs.Inheritance.{general}
 use Rattle.demand_core.proofs.ComputationLaws.{regular_follow}
@@ -24,6 +26,12 @@ use Rattle.inheritance.specs.Sights.{explicit_reached, world_as, sees}
 
 pub explicit_reached_regular : (t : ElementNo) → IsRegular (explicit_reached t)
 explicit_reached_regular t = regular_follow same_element explicit_links general explicit_regular general_regular most t
+
+-- an answer that was marked has nothing twice
+pub answer_once : (es : List ElementNo) (f : Found (List ElementNo)) (given : List ElementNo) → given ≡ marked_all same_element [] es → IsAnswer given f
+    → IsOnce f
+answer_once es (found.Done ys) given is h = subst IsEachOnce (sym (h ∙ is)) (all_once same_element element_is_exact es [] tt)
+answer_once es (found.Waits rs) given is h = tt
 
 module _ (c : List StoredFile → Lookup (List ElementNo)) (s : Sight) (v : View) (seen : s.view.now ≡ v) where
   abbrev seen_by : Bool → LinkTrail ElementNo → Type 0

@@ -16,7 +16,7 @@ use Rattle.element_store.specs.BaseRules.{StandsIn, model_of, base_of}
 use Rattle.link_model.specs.declared.keys.LinkKey.{LinkKey}
 use Rattle.link_model.specs.declared.keys.LinkFact.{LinkFact}
 use Rattle.link_model.specs.declared.keys.LinkFact.TheVariants.{File}
-use Rattle.link_model.specs.Inheritance.{is_specialisation, Link, general, base, base_link, general_links}
+use Rattle.link_model.specs.Inheritance.{is_specialisation, general, base, base_link, general_links}
 use Rattle.link_model.specs.Inheritance.Link.{ByReference}
 use Rattle.link_model.specs.Names.{is_redefinition, redefinitions}
 use Rattle.link_model.specs.Outside.{library_of, model_in}
@@ -70,7 +70,8 @@ stands_within files e d of h = let same : h.0 ≡ d = some_same h.0 d (sym h.1 �
     some_same : {V : Type 0} (v u : V) → Some v ≡ Some u → v ≡ u
     some_same v u e = cc
 
-module _ (settled : Bool) (files : List StoredFile) (entries : List (LinkKey × Outcome)) (node : ElementNo) (d : Data) (of : model_of files node.file.0 ≡ Some d) where
+module _ (settled : Bool) (files : List StoredFile) (entries : List (LinkKey × Outcome)) (node : ElementNo) (d : Data) (of : model_of files node.file.0
+    ≡ Some d) where
   abbrev w : LinkWorld
   w = world_as settled (reading files entries)
 
@@ -117,7 +118,8 @@ module _ (settled : Bool) (files : List StoredFile) (entries : List (LinkKey × 
       let a = cond feature (references_as is_redefinition node) (done []) w in
       expanded_step (ends target) w (with_looks old (record { step = a.step; looks = at_file ∷ a.looks })) a.step
 
-  kind_is : (x : Element) → slice_get d.elements node.index ≡ Some x → (old : ElementTrail) → by_kind d (is_feature x.kind) old ≡ expanded (ends target) w redefinitions node old
+  kind_is : (x : Element) → slice_get d.elements node.index ≡ Some x → (old : ElementTrail) → by_kind d (is_feature x.kind) old
+      ≡ expanded (ends target) w redefinitions node old
   kind_is x at old =
       let same : x ≡ get_or (model_in (slice_get files node.file.0)).elements node.index root_element =
       sym (get_same d.elements node.index x root_element at) ∙ ap (λ (z : Data). get_or z.elements node.index root_element) whole in

@@ -1,10 +1,10 @@
 ghost use Rattle.std.specs.Prelude.{◌≡◌, IfOk, OnOk};
-ghost use Rattle.linker_base.specs.Members.{IsEachOnce, SameMembers};
+ghost use Rattle.linker_base.specs.Members.{SameMembers};
 ghost use Rattle.element_store.specs.BaseRules.{StandsIn};
 ghost use Rattle.link_model.specs.Inheritance as inheritance;
 ghost use Rattle.link_model.specs.Outside.{library_of};
 ghost use Rattle.link_model.specs.Settled as settled;
-ghost use Rattle.link_walk.specs.Calls.{AddsLooks, Answers, HasLinks, files_of, read_by};
+ghost use Rattle.link_walk.specs.Calls.{AddsLooks, Answers, HasLinks, IsOnce, files_of, read_by};
 
 use crate::explicit::explicit_from;
 use crate::general_types::generals_of;
@@ -49,8 +49,11 @@ pub fn all_redefined(
 ) -> Result<Found<Elements>, NoMemory>
     requires stands { StandsIn (files_of view.now) of }
     requires links { HasLinks view.now }
-    ensures found { IfOk result (λ found. Answers found (inheritance.all_redefined of (read_by view.now)).step) }
-    ensures looks { OnOk result (AddsLooks looks.old looks.new (inheritance.all_redefined of (read_by view.now))) }
+    ensures found { IfOk result (λ found. Answers found
+        (inheritance.all_redefined of (read_by view.now)).step) }
+    ensures once { IfOk result IsOnce }
+    ensures looks { OnOk result (AddsLooks looks.old looks.new
+        (inheritance.all_redefined of (read_by view.now))) }
 {
     let sight = Sight::new(view, false);
     let trail = redefined_from(alloc, &sight, of)?;

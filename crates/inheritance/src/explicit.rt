@@ -56,7 +56,8 @@ fn expand_explicit(
 ) -> Result<(), NoMemory>
     requires clear { IsClear sight.now }
     requires stands { StandsIn sight.now.view.now.models.now node }
-    ensures { OnOk result (trail.new ≡ expanded (ends general) (sees sight.now) explicit_links node trail.old) }
+    ensures { OnOk result (trail.new ≡
+        expanded (ends general) (sees sight.now) explicit_links node trail.old) }
 {
     let of = model(sight.view, node.file, &mut trail.notes)?;
     let references = references_of(alloc, of, node, Wanted::Specialisations)?;

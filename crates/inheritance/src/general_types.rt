@@ -47,7 +47,8 @@ impl<'a> Links<ElementNo> for Generals<'a> {
 
     ghost closed = { λ g. generals_closed g.sight.now };
 
-    ghost regular_links = { λ g. general_links_regular (library_of g.sight.now.view.now.models.now) };
+    ghost regular_links = { λ g.
+        general_links_regular (library_of g.sight.now.view.now.models.now) };
 
     ghost regular_leads = { λ g. general_ends_regular };
 }
@@ -97,7 +98,8 @@ fn take_general(
 ) -> Result<(), NoMemory>
     requires clear { IsClear sight.now }
     requires stands { ReferenceStands sight.now.view.now.models.now reference.0 }
-    ensures { OnOk result (trail.new ≡ took (ends general (ByReference reference) (sees sight.now)) trail.old) }
+    ensures { OnOk result (trail.new ≡
+        took (ends general (ByReference reference) (sees sight.now)) trail.old) }
 {
     match sight.target(reference, &mut trail.notes)? {
         None => Ok(()),

@@ -60,7 +60,8 @@ fn expand_redefined(
 ) -> Result<(), NoMemory>
     requires clear { IsClear sight.now }
     requires stands { StandsIn sight.now.view.now.models.now node }
-    ensures { OnOk result (trail.new ≡ expanded (ends target) (sees sight.now) redefinitions node trail.old) }
+    ensures { OnOk result (trail.new ≡
+        expanded (ends target) (sees sight.now) redefinitions node trail.old) }
 {
     let of = model(sight.view, node.file, &mut trail.notes)?;
     let is_feature = of.element(node.index).kind.is_feature();
@@ -80,7 +81,8 @@ fn take_redefinitions(
 ) -> Result<(), NoMemory>
     requires stand { (k : LinkKey) → IsMember references.now k
         → ReferenceStands sight.now.view.now.models.now k.0 }
-    ensures { OnOk result (trail.new ≡ took_all (ends target) (sees sight.now) references.now trail.old) }
+    ensures { OnOk result (trail.new ≡
+        took_all (ends target) (sees sight.now) references.now trail.old) }
 {
     for reference in references {
         take_redefinition(sight, *reference, trail)?;

@@ -1,8 +1,8 @@
 -- From what code found and noted to the answer of a call.
-use Rattle.std.proofs.Common.{◌≡◌, Bool, true, false, List, [], ◌∷◌, ◌++◌, refl, sym, ◌∙◌, ap, subst, inl, inr, append-nil}
-use Rattle.std.specs.Prelude.{◌⊎◌, None, Some, map, not}
-use Rattle.linker_base.specs.Members.{IsMember, SameMembers, Adds}
-use Rattle.linker_base.proofs.MemberLaws.{member_left, member_right, member_cases, same_members, same_through}
+use Rattle.std.proofs.Common.{◌≡◌, true, false, List, [], ◌∷◌, ◌++◌, refl, sym, subst, inl, inr}
+use Rattle.std.specs.Prelude.{◌⊎◌, None, Some, not}
+use Rattle.linker_base.specs.Members.{IsMember, SameMembers}
+use Rattle.linker_base.proofs.MemberLaws.{member_left, member_right, member_cases, same_through}
 use Rattle.demand_core.specs.Rules.{WaitsOn}
 use Rattle.demand_core.specs.Computation.{done, then_step, ◌>>=◌, joined, IsSound, IsRegular}
 use Rattle.demand_core.specs.Gather.{Led}
@@ -18,7 +18,6 @@ use Rattle.link_model.specs.declared.keys.LinkFact.{LinkFact}
 use Rattle.link_model.specs.Keys.{same_element, element_is_exact}
 use Rattle.link_model.specs.Readers.{Lookup, LinkWorld, is_nil}
 use Rattle.link_model.specs.Settled.{settled, in_settled}
-use Rattle.link_walk.specs.declared.answering.Found.{Found}
 use Rattle.link_walk.specs.declared.answering.Found.TheVariants as found
 use Rattle.link_walk.specs.Calls.{Answers, AddsLooks, keys_for, ends}
 use Rattle.link_walk.specs.Marks.{marked_all}
@@ -28,7 +27,8 @@ use Rattle.link_walk.proofs.MarkLaws.{marks_same}
 use Rattle.link_walk.proofs.TookLaws.{expands_by}
 use Rattle.element_store.specs.declared.numbers.RefNo.{RefNo}
 
-step_over : {B : Type 0} (xs ys : List B) (waits : List LinkKey) (step : Step LinkKey (List B)) → SameMembers ys xs → IsStep xs waits step → IsStep ys waits step
+step_over : {B : Type 0} (xs ys : List B) (waits : List LinkKey) (step : Step LinkKey (List B)) → SameMembers ys xs → IsStep xs waits step
+    → IsStep ys waits step
 step_over xs ys [] (Done zs) s h = same_through s h
 step_over xs ys [] (Waits ks) s h = absurd h
 step_over xs ys (v ∷ vs) (Done zs) s h = absurd h
@@ -56,7 +56,8 @@ answers_waits xs refs (v ∷ vs) (Done ys) e is h = h
 answers_waits xs refs (v ∷ vs) (Waits ks) e is h = subst (λ z. SameMembers z ks) (sym is) h
 
 -- its looks
-pub adds_told : {B : Type 0} (old new looks : List (Fact LinkKey LinkFact)) (a : Asks (List B)) → new ≡ old ++ looks → SameMembers looks a.looks → AddsLooks old new a
+pub adds_told : {B : Type 0} (old new looks : List (Fact LinkKey LinkFact)) (a : Asks (List B)) → new ≡ old ++ looks → SameMembers looks a.looks
+    → AddsLooks old new a
 adds_told old new looks a is same = record { added = looks; whole = is; same = same }
 
 -- where no link is to come any more, nothing is waited on
@@ -77,7 +78,8 @@ settled_found {B} c r w trail h = by (c (settled w)).step (c (settled w)).looks 
 -- A SEARCH OF ONE STEP: a node that is expanded gives what its links give.
 module _ {L : Type 0} (links : ElementNo → Lookup (List L)) (c : L → Lookup (List ElementNo)) (w : LinkWorld) where
   led_by : (a : Asks (List ElementNo)) (step : Step LinkKey (List ElementNo)) (x : Part LinkKey LinkFact ElementNo)
-      → Shows (record { step = step; looks = a.looks }) x → LedShows (then_step {B = Led ElementNo ElementNo} a (λ ts. done (record { found = ts; onward = ts }) w) step) x
+      → Shows (record { step = step; looks = a.looks }) x → LedShows (then_step {B = Led ElementNo ElementNo} a (λ ts. done
+      (record { found = ts; onward = ts }) w) step) x
   led_by a (Done ts) (Finds y) h = h
   led_by a (Done ts) (Awaits k) h = h
   led_by a (Done ts) (LooksAt f) h = member_left a.looks [] f h
@@ -86,7 +88,8 @@ module _ {L : Type 0} (links : ElementNo → Lookup (List L)) (c : L → Lookup 
   led_by a (Waits ks) (LooksAt f) h = h
 
   by_led : (a : Asks (List ElementNo)) (step : Step LinkKey (List ElementNo)) (x : Part LinkKey LinkFact ElementNo)
-      → LedShows (then_step {B = Led ElementNo ElementNo} a (λ ts. done (record { found = ts; onward = ts }) w) step) x → Admits (record { step = step; looks = a.looks }) x
+      → LedShows (then_step {B = Led ElementNo ElementNo} a (λ ts. done (record { found = ts; onward = ts }) w) step) x
+      → Admits (record { step = step; looks = a.looks }) x
   by_led a (Done ts) (Finds y) h = h
   by_led a (Done ts) (Awaits k) h = h
   by_led a (Done ts) (LooksAt f) h = elim (member_cases a.looks [] f h) [ inl m ↦ m | inr none ↦ absurd none ]
@@ -121,7 +124,8 @@ module _ {L : Type 0} (links : ElementNo → Lookup (List L)) (c : L → Lookup 
       looked ls read (Awaits k) a = absurd (subst (λ z. WaitsOn z k) read a)
       looked ls read (LooksAt f) a = member_right start.looks (links e w).looks f a
 
-      looked_back : (x : Part LinkKey LinkFact ElementNo) → IsKnown (record start { looks = start.looks ++ (links e w).looks }) x → IsKnown start x ⊎ Aside (links e w) x
+      looked_back : (x : Part LinkKey LinkFact ElementNo) → IsKnown (record start { looks = start.looks ++ (links e w).looks }) x
+          → IsKnown start x ⊎ Aside (links e w) x
       looked_back (Finds y) k = inl k
       looked_back (Awaits q) k = inl k
       looked_back (LooksAt f) k = member_cases start.looks (links e w).looks f k

@@ -1,5 +1,5 @@
 -- The elements of files as a list.
-use Rattle.std.proofs.Common.{◌≡◌, ℕ, ◌+◌, ◌*◌, ◌^◌, ◌<◌, ◌≤◌, Bool, true, List, [], ◌∷◌, ◌++◌, length, map, refl, sym, ◌∙◌, ap, subst, inl, inr, arith, length-append}
+use Rattle.std.proofs.Common.{◌≡◌, ℕ, ◌+◌, ◌*◌, ◌^◌, ◌<◌, ◌≤◌, true, List, [], ◌∷◌, length, map, refl, sym, ap, subst, inl, inr, arith, length-append}
 use Rattle.std.proofs.lemmas.List.{length-map}
 use Rattle.std.specs.Prelude.{zero, suc, Option, None, Some, slice_get, nat_lt}
 use Rattle.std.specs.List.{flat_map}
@@ -12,10 +12,9 @@ use Rattle.element_store.specs.declared.numbers.FileNo.{FileNo}
 use Rattle.element_store.specs.declared.models.StoredFile.{StoredFile}
 use Rattle.element_store.specs.Model.{Data}
 use Rattle.element_store.specs.Numbers.{places_from}
-use Rattle.element_store.specs.Condition.{IsModel}
 use Rattle.element_store.specs.Stored.{AreFiles}
 use Rattle.element_store.specs.BaseRules.{StandsIn, model_of}
-use Rattle.link_model.specs.Outside.{Numbered, numbered_from}
+use Rattle.link_model.specs.Outside.{numbered_from}
 use Rattle.link_model.specs.Readers.{most}
 use Rattle.link_walk.specs.Calls.{elements_in, elements_of}
 
@@ -52,7 +51,8 @@ there_in f (Some c) d i is lt =
     member_map (λ k. record { file = f; index = k }) (places_from 0 c.elements) i
     (subst (IsMember (places_from 0 c.elements)) (plain i) (place_in 0 i c.elements (subst (λ (z : Data). i < length z.elements) (sym same) lt)))
 
-stands_in : (f : FileNo) (o : Option Data) (e : ElementNo) → IsMember (listed_in f o) e → (d : Data) × (o ≡ Some d) × (e.file ≡ f) × (e.index < length d.elements)
+stands_in : (f : FileNo) (o : Option Data) (e : ElementNo) → IsMember (listed_in f o) e → (d : Data) × (o ≡ Some d) × (e.file
+    ≡ f) × (e.index < length d.elements)
 stands_in f None e m = absurd m
 stands_in f (Some d) e m =
     let at = member_of_map (λ k. record { file = f; index = k }) (places_from 0 d.elements) e m in

@@ -1,13 +1,13 @@
 -- Parts of a stage that code adds, one after another.
-use Rattle.std.proofs.Common.{◌≡◌, ℕ, ◌+◌, ◌<◌, ◌≤◌, Bool, true, false, cond, List, [], ◌∷◌, ◌++◌, length, get_or, take, refl, sym, ◌∙◌, ap, subst, inl, inr, arith, append_assoc, append-nil, take-suc, add-one}
-use Rattle.std.specs.Prelude.{◌⊎◌, map, not, Option, None, Some}
+use Rattle.std.proofs.Common.{◌≡◌, ℕ, ◌+◌, ◌<◌, ◌≤◌, Bool, true, false, cond, List, [], ◌∷◌, ◌++◌, length, get_or, take, refl, sym, ◌∙◌, ap, subst, inl, inr, append_assoc, append-nil, take-suc, add-one}
+use Rattle.std.specs.Prelude.{◌⊎◌, map, not, Option}
 use Rattle.std.proofs.lemmas.List.{take_all}
 use Rattle.linker_base.specs.Members.{IsMember, SameMembers}
 use Rattle.linker_base.proofs.MemberLaws.{member_left, member_right, member_cases, member_map}
 use Rattle.demand_core.specs.Alike.{AlikeStep, Alike}
 use Rattle.demand_core.specs.Rules.{WaitsOn}
 use Rattle.demand_core.specs.Computation.{Asked, IsSound, done, then_step, ◌>>=◌, join_step, join, both_step, both, joined}
-use Rattle.demand_core.specs.Search.{Part, Finds, Awaits, LooksAt, Has, MayHave, Shows, Admits, Aside, Trail, IsKnown, IsStep, IsAsked}
+use Rattle.demand_core.specs.Search.{Part, Finds, Awaits, LooksAt, Shows, Admits, Aside, Trail, IsKnown, IsStep, IsAsked}
 use Rattle.demand_core.specs.declared.looks.Fact.{Fact}
 use Rattle.demand_core.specs.declared.step.Step.{Step}
 use Rattle.demand_core.specs.declared.step.Step.TheVariants.{Done, Waits}
@@ -68,22 +68,27 @@ Brings fs ws gs (Finds y) = IsMember fs y
 Brings fs ws gs (Awaits k) = IsMember ws k
 Brings fs ws gs (LooksAt f) = IsMember gs f
 
-plus_kept : {A B : Type 0} (t : Trail LinkKey LinkFact A B) (fs : List B) (ws : List LinkKey) (gs : List (Fact LinkKey LinkFact)) (y : Part LinkKey LinkFact B) → IsKnown t y → IsKnown (plus t fs ws gs) y
+plus_kept : {A B : Type 0} (t : Trail LinkKey LinkFact A B) (fs : List B) (ws : List LinkKey) (gs : List (Fact LinkKey LinkFact))
+    (y : Part LinkKey LinkFact B) → IsKnown t y → IsKnown (plus t fs ws gs) y
 plus_kept t fs ws gs (Finds y) k = member_left t.found fs y k
 plus_kept t fs ws gs (Awaits q) k = key_left t.waits ws q k
 plus_kept t fs ws gs (LooksAt f) k = fact_left t.looks gs f k
 
-plus_has : {A B : Type 0} (t : Trail LinkKey LinkFact A B) (fs : List B) (ws : List LinkKey) (gs : List (Fact LinkKey LinkFact)) (y : Part LinkKey LinkFact B) → Brings fs ws gs y → IsKnown (plus t fs ws gs) y
+plus_has : {A B : Type 0} (t : Trail LinkKey LinkFact A B) (fs : List B) (ws : List LinkKey) (gs : List (Fact LinkKey LinkFact))
+    (y : Part LinkKey LinkFact B) → Brings fs ws gs y → IsKnown (plus t fs ws gs) y
 plus_has t fs ws gs (Finds y) k = member_right t.found fs y k
 plus_has t fs ws gs (Awaits q) k = key_right t.waits ws q k
 plus_has t fs ws gs (LooksAt f) k = fact_right t.looks gs f k
 
-plus_cases : {A B : Type 0} (t : Trail LinkKey LinkFact A B) (fs : List B) (ws : List LinkKey) (gs : List (Fact LinkKey LinkFact)) (y : Part LinkKey LinkFact B) → IsKnown (plus t fs ws gs) y → IsKnown t y ⊎ Brings fs ws gs y
+plus_cases : {A B : Type 0} (t : Trail LinkKey LinkFact A B) (fs : List B) (ws : List LinkKey) (gs : List (Fact LinkKey LinkFact))
+    (y : Part LinkKey LinkFact B) → IsKnown (plus t fs ws gs) y → IsKnown t y ⊎ Brings fs ws gs y
 plus_cases t fs ws gs (Finds y) k = member_cases t.found fs y k
 plus_cases t fs ws gs (Awaits q) k = key_cases t.waits ws q k
 plus_cases t fs ws gs (LooksAt f) k = fact_cases t.looks gs f k
 
-shows_brings : {B : Type 0} (found : List B) (step : Step LinkKey (List B)) (waits : List LinkKey) (seen looks : List (Fact LinkKey LinkFact)) → IsStep found waits step → SameMembers seen looks → (y : Part LinkKey LinkFact B) → Shows (record { step = step; looks = looks }) y → Brings found waits seen y
+shows_brings : {B : Type 0} (found : List B) (step : Step LinkKey (List B)) (waits : List LinkKey) (seen looks : List (Fact LinkKey LinkFact))
+    → IsStep found waits step → SameMembers seen looks → (y : Part LinkKey LinkFact B) → Shows (record { step = step; looks = looks }) y
+    → Brings found waits seen y
 shows_brings found (Done ys) [] seen looks s l (Finds y) h = s.right y h
 shows_brings found (Done ys) [] seen looks s l (Awaits k) h = absurd h
 shows_brings found (Done ys) [] seen looks s l (LooksAt f) h = l.right f h
@@ -93,7 +98,9 @@ shows_brings found (Waits ks) (v ∷ vs) seen looks s l (Finds y) h = absurd h
 shows_brings found (Waits ks) (v ∷ vs) seen looks s l (Awaits k) h = s.right k h
 shows_brings found (Waits ks) (v ∷ vs) seen looks s l (LooksAt f) h = l.right f h
 
-brings_admits : {B : Type 0} (found : List B) (step : Step LinkKey (List B)) (waits : List LinkKey) (seen looks : List (Fact LinkKey LinkFact)) → IsStep found waits step → SameMembers seen looks → (y : Part LinkKey LinkFact B) → Brings found waits seen y → Admits (record { step = step; looks = looks }) y
+brings_admits : {B : Type 0} (found : List B) (step : Step LinkKey (List B)) (waits : List LinkKey) (seen looks : List (Fact LinkKey LinkFact))
+    → IsStep found waits step → SameMembers seen looks → (y : Part LinkKey LinkFact B) → Brings found waits seen y
+    → Admits (record { step = step; looks = looks }) y
 brings_admits found (Done ys) [] seen looks s l (Finds y) h = s.left y h
 brings_admits found (Done ys) [] seen looks s l (Awaits k) h = absurd h
 brings_admits found (Done ys) [] seen looks s l (LooksAt f) h = l.left f h
@@ -111,16 +118,26 @@ at_notes nodes found n = record { nodes = nodes; found = found; waits = n.waits;
 
 module _ {A B : Type 0} where
   -- an asking of its own is added
-  pub gained_asked : {C : Type 0} (g : Trail LinkKey LinkFact C B) (a : Asked LinkKey LinkFact (List B)) (old : Trail LinkKey LinkFact A B) → IsAsked g a → Gained a old (plus old g.found g.waits g.looks)
+  pub gained_asked : {C : Type 0} (g : Trail LinkKey LinkFact C B) (a : Asked LinkKey LinkFact (List B)) (old : Trail LinkKey LinkFact A B) → IsAsked g a
+      → Gained a old (plus old g.found g.waits g.looks)
   gained_asked g a old h = record {
     kept = plus_kept old g.found g.waits g.looks;
     shown = λ y s. plus_has old g.found g.waits g.looks y (shows_brings g.found a.step g.waits g.looks a.looks h.step h.looks y s);
-    only = λ y k. elim (plus_cases old g.found g.waits g.looks y k) [ inl o ↦ inl o | inr b ↦ inr (brings_admits g.found a.step g.waits g.looks a.looks h.step h.looks y b) ];
+    only = λ y k. elim (plus_cases old g.found g.waits g.looks y k) [
+      | inl o ↦ inl o
+      | inr b ↦ inr
+          (brings_admits g.found a.step g.waits g.looks a.looks h.step h.looks y b)
+    ];
   }
 
   -- what was added to nothing is the asking
-  pub asked_gained : (w : LinkWorld) (a : Asked LinkKey LinkFact (List B)) (start new : Trail LinkKey LinkFact A B) → start ≡ record { nodes = start.nodes; found = []; waits = []; looks = [] } → IsSound w.table a.step a.looks → Gained a start new → IsAsked new a
-  asked_gained w a start new empty sound h = is_asked w.table new a sound h.shown (λ y k. elim (h.only y k) [ inl o ↦ absurd (nothing y (subst (λ z. IsKnown z y) empty o)) | inr b ↦ b ])
+  pub asked_gained : (w : LinkWorld) (a : Asked LinkKey LinkFact (List B)) (start new : Trail LinkKey LinkFact A B)
+      → start ≡ record { nodes = start.nodes; found = []; waits = []; looks = [] } → IsSound w.table a.step a.looks → Gained a start new → IsAsked new a
+  asked_gained w a start new empty sound h = is_asked w.table new a sound h.shown (λ y k. elim (h.only y k) [
+    | inl o ↦ absurd (nothing y (subst
+        (λ z. IsKnown z y) empty o))
+    | inr b ↦ b
+  ])
     where
       nothing : (y : Part LinkKey LinkFact B) → IsKnown {A = A} (record { nodes = start.nodes; found = []; waits = []; looks = [] }) y → ⊥
       nothing (Finds z) k = k
@@ -130,7 +147,8 @@ module _ {A B : Type 0} where
   pub gained_none : (w : LinkWorld) (t : Trail LinkKey LinkFact A B) → Gained (done [] w) t t
   gained_none w t = record { kept = λ y k. k; shown = λ y h. absurd (shows_nothing w y h); only = λ y k. inl k }
 
-  pub gained_join : (w : LinkWorld) (c d : Lookup (List B)) (old mid new : Trail LinkKey LinkFact A B) → Gained (c w) old mid → Gained (d w) mid new → Gained (join c d w) old new
+  pub gained_join : (w : LinkWorld) (c d : Lookup (List B)) (old mid new : Trail LinkKey LinkFact A B) → Gained (c w) old mid → Gained (d w) mid new
+      → Gained (join c d w) old new
   gained_join w c d old mid new g h = record {
     kept = λ y k. h.kept y (g.kept y k);
     shown = λ y s. elim (shows_join w c d y s) [ inl a ↦ h.kept y (g.shown y a) | inr b ↦ h.shown y b ];
@@ -141,26 +159,33 @@ module _ {A B : Type 0} where
   }
 
   -- one part more
-  pub gained_next : {C : Type 0} (w : LinkWorld) (f : C → Lookup (List B)) (xs : List C) (i : ℕ) (d e : C) (old mid new : Trail LinkKey LinkFact A B) → i < length xs → d ≡ get_or xs i e → Gained (joined f (take i xs) w) old mid → Gained (f d w) mid new
+  pub gained_next : {C : Type 0} (w : LinkWorld) (f : C → Lookup (List B)) (xs : List C) (i : ℕ) (d e : C) (old mid new : Trail LinkKey LinkFact A B)
+      → i < length xs → d ≡ get_or xs i e → Gained (joined f (take i xs) w) old mid → Gained (f d w) mid new
       → Gained (joined f (take (i + 1) xs) w) old new
   gained_next w f xs i d e old mid new lt is g h =
       let more : take (i + 1) xs ≡ take i xs ++ d ∷ [] = rw add-one (take-suc xs i e lt) ∙ ap (λ z. take i xs ++ z ∷ []) (sym is) in
-      subst (λ ys. Gained (joined f ys w) old new) (sym more) (subst (λ a. Gained a old new) (sym (joined_last w f (take i xs) d)) (gained_join w (joined f (take i xs)) (f d) old mid new g h))
+      subst (λ ys. Gained (joined f ys w) old new) (sym more) (subst (λ a. Gained a old new) (sym (joined_last w f (take i xs) d)) (gained_join w (joined f
+      (take i xs)) (f d) old mid new g h))
 
   -- after the last part
-  pub gained_all : {C : Type 0} (w : LinkWorld) (f : C → Lookup (List B)) (xs : List C) (i : ℕ) (old new : Trail LinkKey LinkFact A B) → length xs ≤ i → Gained (joined f (take i xs) w) old new → Gained (joined f xs w) old new
+  pub gained_all : {C : Type 0} (w : LinkWorld) (f : C → Lookup (List B)) (xs : List C) (i : ℕ) (old new : Trail LinkKey LinkFact A B) → length xs ≤ i
+      → Gained (joined f (take i xs) w) old new → Gained (joined f xs w) old new
   gained_all w f xs i old new done_all h = subst (λ ys. Gained (joined f ys w) old new) (take_all i xs done_all) h
 
   -- by a test
-  pub gained_true : (w : LinkWorld) (b : Bool) (c d : Lookup (List B)) (old new : Trail LinkKey LinkFact A B) → b ≡ true → Gained (c w) old new → Gained (cond b c d w) old new
+  pub gained_true : (w : LinkWorld) (b : Bool) (c d : Lookup (List B)) (old new : Trail LinkKey LinkFact A B) → b ≡ true → Gained (c w) old new
+      → Gained (cond b c d w) old new
   gained_true w b c d old new e h = subst (λ z. Gained (cond z c d w) old new) (sym e) h
 
-  pub gained_false : (w : LinkWorld) (b : Bool) (c d : Lookup (List B)) (old new : Trail LinkKey LinkFact A B) → b ≡ false → Gained (d w) old new → Gained (cond b c d w) old new
+  pub gained_false : (w : LinkWorld) (b : Bool) (c d : Lookup (List B)) (old new : Trail LinkKey LinkFact A B) → b ≡ false → Gained (d w) old new
+      → Gained (cond b c d w) old new
   gained_false w b c d old new e h = subst (λ z. Gained (cond z c d w) old new) (sym e) h
 
   -- an element is read, and then
-  pub gained_read : {C : Type 0} (w : LinkWorld) (c : Lookup C) (f : C → Lookup (List B)) (v : C) (nodes : List A) (found : List B) (old mid : Noted) (new : Trail LinkKey LinkFact A B) → Reads (c w) v old mid
-      → Gained (f v w) (record { nodes = nodes; found = found; waits = mid.waits; looks = mid.looks }) new → Gained ((c >>= f) w) (record { nodes = nodes; found = found; waits = old.waits; looks = old.looks }) new
+  pub gained_read : {C : Type 0} (w : LinkWorld) (c : Lookup C) (f : C → Lookup (List B)) (v : C) (nodes : List A) (found : List B) (old mid : Noted)
+      (new : Trail LinkKey LinkFact A B) → Reads (c w) v old mid
+      → Gained (f v w) (record { nodes = nodes; found = found; waits = mid.waits; looks = mid.looks }) new
+      → Gained ((c >>= f) w) (record { nodes = nodes; found = found; waits = old.waits; looks = old.looks }) new
   gained_read w c f v nodes found old mid new r h = record {
     kept = λ y k. h.kept y (subst (λ (n : Noted). IsKnown (at_notes nodes found n) y) (sym r.noted) (kept_by y k));
     shown = λ y s. elim (shows_then w c f y s) [
@@ -168,7 +193,11 @@ module _ {A B : Type 0} where
       | inr d ↦ h.shown y (subst (λ z. Shows (f z w) y) (same_done d.0 v (sym d.1 ∙ r.step)) d.2)
     ];
     only = λ y k. elim (h.only y k) [
-      | inl there ↦ elim (only_by y (subst (λ (n : Noted). IsKnown (at_notes nodes found n) y) r.noted there)) [ inl o ↦ inl o | inr aside ↦ inr (admits_first w c f y aside) ]
+      | inl there ↦ elim (only_by y (subst (λ (n : Noted). IsKnown (at_notes nodes found n) y) r.noted there)) [
+        | inl o ↦ inl o
+        | inr aside ↦ inr
+            (admits_first w c f y aside)
+      ]
       | inr b ↦ inr (admits_then w c f v y r.step b)
     ];
   }
@@ -176,23 +205,30 @@ module _ {A B : Type 0} where
       same_done : {C : Type 0} (u v : C) → ready u ≡ ready v → u ≡ v
       same_done u v e = cc
 
-      kept_by : (y : Part LinkKey LinkFact B) → IsKnown (at_notes nodes found old) y → IsKnown (at_notes nodes found (record { waits = old.waits; looks = facts old.looks (c w).looks })) y
+      kept_by : (y : Part LinkKey LinkFact B) → IsKnown (at_notes nodes found old) y → IsKnown (at_notes nodes found
+          (record { waits = old.waits; looks = facts old.looks (c w).looks })) y
       kept_by (Finds y) k = k
       kept_by (Awaits q) k = k
       kept_by (LooksAt f) k = fact_left old.looks (c w).looks f k
 
-      has_by : (y : Part LinkKey LinkFact B) → Aside (c w) y → IsKnown (at_notes nodes found (record { waits = old.waits; looks = facts old.looks (c w).looks })) y
+      has_by : (y : Part LinkKey LinkFact B) → Aside (c w) y → IsKnown (at_notes nodes found (record {
+        waits = old.waits;
+        looks = facts old.looks
+            (c w).looks;
+      })) y
       has_by (Finds y) k = absurd k
       has_by (Awaits q) k = absurd (subst (λ z. WaitsOn z q) r.step k)
       has_by (LooksAt f) k = fact_right old.looks (c w).looks f k
 
-      only_by : (y : Part LinkKey LinkFact B) → IsKnown (at_notes nodes found (record { waits = old.waits; looks = facts old.looks (c w).looks })) y → IsKnown (at_notes nodes found old) y ⊎ Aside (c w) y
+      only_by : (y : Part LinkKey LinkFact B) → IsKnown (at_notes nodes found (record { waits = old.waits; looks = facts old.looks (c w).looks })) y
+          → IsKnown (at_notes nodes found old) y ⊎ Aside (c w) y
       only_by (Finds y) k = inl k
       only_by (Awaits q) k = inl k
       only_by (LooksAt f) k = fact_cases old.looks (c w).looks f k
 
 -- askings that are alike
-alike_shows : {B : Type 0} (a b : Step LinkKey (List B)) (us vs : List (Fact LinkKey LinkFact)) → AlikeStep a b → SameMembers us vs → (y : Part LinkKey LinkFact B) → Shows (record { step = a; looks = us }) y → Shows (record { step = b; looks = vs }) y
+alike_shows : {B : Type 0} (a b : Step LinkKey (List B)) (us vs : List (Fact LinkKey LinkFact)) → AlikeStep a b → SameMembers us vs
+    → (y : Part LinkKey LinkFact B) → Shows (record { step = a; looks = us }) y → Shows (record { step = b; looks = vs }) y
 alike_shows (Done xs) (Done ys) us vs s l (Finds y) h = s.left y h
 alike_shows (Done xs) (Done ys) us vs s l (Awaits k) h = absurd h
 alike_shows (Done xs) (Waits ks) us vs s l y h = absurd s
@@ -202,7 +238,8 @@ alike_shows (Waits ks) (Waits ls) us vs s l (Awaits k) h = s.left k h
 alike_shows (Done xs) (Done ys) us vs s l (LooksAt f) h = l.left f h
 alike_shows (Waits ks) (Waits ls) us vs s l (LooksAt f) h = l.left f h
 
-alike_admits : {B : Type 0} (a b : Step LinkKey (List B)) (us vs : List (Fact LinkKey LinkFact)) → AlikeStep a b → SameMembers us vs → (y : Part LinkKey LinkFact B) → Admits (record { step = a; looks = us }) y → Admits (record { step = b; looks = vs }) y
+alike_admits : {B : Type 0} (a b : Step LinkKey (List B)) (us vs : List (Fact LinkKey LinkFact)) → AlikeStep a b → SameMembers us vs
+    → (y : Part LinkKey LinkFact B) → Admits (record { step = a; looks = us }) y → Admits (record { step = b; looks = vs }) y
 alike_admits (Done xs) (Done ys) us vs s l (Finds y) h = s.left y h
 alike_admits (Done xs) (Done ys) us vs s l (Awaits k) h = absurd h
 alike_admits (Done xs) (Waits ks) us vs s l y h = absurd s
@@ -219,10 +256,12 @@ alike_back (Waits ks) (Done ys) s = absurd s
 alike_back (Waits ks) (Waits ls) s = record { left = s.right; right = s.left }
 
 -- the same, for an asking that is alike
-pub gained_alike : {A B : Type 0} (a b : Asked LinkKey LinkFact (List B)) (old new : Trail LinkKey LinkFact A B) → Alike a b → Gained a old new → Gained b old new
+pub gained_alike : {A B : Type 0} (a b : Asked LinkKey LinkFact (List B)) (old new : Trail LinkKey LinkFact A B) → Alike a b → Gained a old new
+    → Gained b old new
 gained_alike a b old new e h = record {
   kept = h.kept;
-  shown = λ y s. h.shown y (alike_shows b.step a.step b.looks a.looks (alike_back a.step b.step e.step) (record { left = e.looks.right; right = e.looks.left }) y s);
+  shown = λ y s. h.shown y (alike_shows b.step a.step b.looks a.looks (alike_back a.step b.step e.step)
+      (record { left = e.looks.right; right = e.looks.left }) y s);
   only = λ y k. elim (h.only y k) [ inl o ↦ inl o | inr m ↦ inr (alike_admits a.step b.step a.looks b.looks e.step e.looks y m) ];
 }
 
@@ -238,33 +277,44 @@ same_map f xs ys h = record {
 }
 
 -- an asking of its own, under names, is added
-pub gained_mapped : {A B C D : Type 0} (w : LinkWorld) (g : Trail LinkKey LinkFact D C) (c : Lookup (List C)) (f : C → B) (old : Trail LinkKey LinkFact A B) → IsAsked g (c w) → Gained ((c >>= λ xs. done (map f xs)) w) old (plus old (map f g.found) g.waits g.looks)
+pub gained_mapped : {A B C D : Type 0} (w : LinkWorld) (g : Trail LinkKey LinkFact D C) (c : Lookup (List C)) (f : C → B) (old : Trail LinkKey LinkFact A B)
+    → IsAsked g (c w) → Gained ((c >>= λ xs. done (map f xs)) w) old (plus old (map f g.found) g.waits g.looks)
 gained_mapped {A} {B} {C} {D} w g c f old h =
     let e = mapped (c w).step (c w).looks g.waits h.step in
-    gained_asked (record { nodes = g.nodes; found = map f g.found; waits = g.waits; looks = g.looks }) ((c >>= λ xs. done (map f xs)) w) old (record { step = e.0; looks = subst (SameMembers g.looks) (sym e.1) h.looks })
+    gained_asked (record { nodes = g.nodes; found = map f g.found; waits = g.waits; looks = g.looks }) ((c >>= λ xs. done (map f xs)) w) old
+    (record { step = e.0; looks = subst (SameMembers g.looks) (sym e.1) h.looks })
   where
     mapped : (step : Step LinkKey (List C)) (looks : List (Fact LinkKey LinkFact)) (waits : List LinkKey) → IsStep g.found waits step
-        → IsStep (map f g.found) waits (then_step {B = List B} (record { step = step; looks = looks }) (λ xs. done (map f xs) w) step).step × ((then_step {B = List B} (record { step = step; looks = looks }) (λ xs. done (map f xs) w) step).looks ≡ looks)
+        → IsStep (map f g.found) waits (then_step {B = List B} (record { step = step; looks = looks }) (λ xs. done (map f xs) w) step).step
+        × ((then_step {B = List B} (record { step = step; looks = looks }) (λ xs. done (map f xs) w) step).looks ≡ looks)
     mapped (Done ys) looks [] s = (same_map f g.found ys s, append-nil looks)
     mapped (Done ys) looks (v ∷ vs) s = absurd s
     mapped (Waits ks) looks [] s = absurd s
     mapped (Waits ks) looks (v ∷ vs) s = (s, refl)
 
 -- a first stage that waits
-pub gained_stop : {A B C D : Type 0} (w : LinkWorld) (g : Trail LinkKey LinkFact D C) (c : Lookup (List C)) (f : List C → Lookup (List B)) (old : Trail LinkKey LinkFact A B) → IsAsked g (c w) → (g.waits ≡ [] → ⊥) → Gained ((c >>= f) w) old (plus old [] g.waits g.looks)
+pub gained_stop : {A B C D : Type 0} (w : LinkWorld) (g : Trail LinkKey LinkFact D C) (c : Lookup (List C)) (f : List C
+    → Lookup (List B)) (old : Trail LinkKey LinkFact A B) → IsAsked g (c w) → (g.waits ≡ [] → ⊥) → Gained ((c >>= f) w) old (plus old [] g.waits g.looks)
 gained_stop {A} {B} {C} {D} w g c f old h some =
     let e = stopped (c w).step (c w).looks g.waits h.step some in
-    gained_asked (record { nodes = g.nodes; found = []; waits = g.waits; looks = g.looks }) ((c >>= f) w) old (record { step = e.0; looks = subst (SameMembers g.looks) (sym e.1) h.looks })
+    gained_asked (record { nodes = g.nodes; found = []; waits = g.waits; looks = g.looks }) ((c >>= f) w) old (record {
+      step = e.0;
+      looks = subst
+          (SameMembers g.looks) (sym e.1) h.looks;
+    })
   where
     stopped : (step : Step LinkKey (List C)) (looks : List (Fact LinkKey LinkFact)) (waits : List LinkKey) → IsStep g.found waits step → (waits ≡ [] → ⊥)
-        → IsStep {B = B} [] waits (then_step (record { step = step; looks = looks }) (λ xs. f xs w) step).step × ((then_step (record { step = step; looks = looks }) (λ xs. f xs w) step).looks ≡ looks)
+        → IsStep {B = B} [] waits (then_step (record { step = step; looks = looks }) (λ xs. f xs w) step).step
+        × ((then_step (record { step = step; looks = looks }) (λ xs. f xs w) step).looks ≡ looks)
     stopped (Done ys) looks [] s some = absurd (some refl)
     stopped (Done ys) looks (v ∷ vs) s some = absurd s
     stopped (Waits ks) looks [] s some = absurd s
     stopped (Waits ks) looks (v ∷ vs) s some = (s, refl)
 
 -- a first stage that is done, and the second over the code's own list
-pub gained_goes_on : {A B C D : Type 0} (w : LinkWorld) (g : Trail LinkKey LinkFact D C) (c : Lookup (List C)) (f : List C → Lookup (List B)) (old new : Trail LinkKey LinkFact A B) → IsAsked g (c w) → g.waits ≡ [] → ((xs ys : List C) → SameMembers xs ys → Alike (f xs w) (f ys w))
+pub gained_goes_on : {A B C D : Type 0} (w : LinkWorld) (g : Trail LinkKey LinkFact D C) (c : Lookup (List C)) (f : List C
+    → Lookup (List B)) (old new : Trail LinkKey LinkFact A B) → IsAsked g (c w) → g.waits ≡ [] → ((xs ys : List C) → SameMembers xs ys
+    → Alike (f xs w) (f ys w))
     → Gained (f g.found w) (plus old [] g.waits g.looks) new → Gained ((c >>= f) w) old new
 gained_goes_on {A} {B} {C} {D} w g c f old new h none same d =
     let e = finished (c w).step g.waits h.step none in
@@ -281,7 +331,8 @@ gained_goes_on {A} {B} {C} {D} w g c f old new h none same d =
       ];
     }
   where
-    finished : (step : Step LinkKey (List C)) (waits : List LinkKey) → IsStep g.found waits step → waits ≡ [] → (ys : List C) × (step ≡ Done ys) × SameMembers g.found ys
+    finished : (step : Step LinkKey (List C)) (waits : List LinkKey) → IsStep g.found waits step → waits ≡ []
+        → (ys : List C) × (step ≡ Done ys) × SameMembers g.found ys
     finished (Done ys) [] s e = (ys, refl, s)
     finished (Done ys) (v ∷ vs) s e = absurd s
     finished (Waits ks) [] s e = absurd s
@@ -309,12 +360,14 @@ gained_target {A} {B} w a o nodes found old mid sound h =
     (gained_asked (record { nodes = nodes; found = listed o; waits = waits_of a.step; looks = a.looks }) a (at_notes nodes found old)
     (record { step = told a.step a.looks sound h.step; looks = record { left = λ x m. m; right = λ x m. m } }))
   where
-    told : (step : Step LinkKey (List B)) (looks : List (Fact LinkKey LinkFact)) → IsSound w.table step looks → TellsStep step o → IsStep (listed o) (waits_of step) step
+    told : (step : Step LinkKey (List B)) (looks : List (Fact LinkKey LinkFact)) → IsSound w.table step looks → TellsStep step o
+        → IsStep (listed o) (waits_of step) step
     told (Done xs) looks sound s = subst (SameMembers (listed o)) (sym s) (record { left = λ x m. m; right = λ x m. m })
     told (Waits []) looks sound s = absurd (sound.0 refl)
     told (Waits (k ∷ ks)) looks sound s = record { left = λ x m. m; right = λ x m. m }
 
-module _ {A B C D : Type 0} (w : LinkWorld) (g : Trail LinkKey LinkFact A C) (h : Trail LinkKey LinkFact A D) (c : Lookup (List C)) (d : Lookup (List D)) (f : List C × List D → Lookup (List B)) (old : Trail LinkKey LinkFact A B) (a : IsAsked g (c w)) (b : IsAsked h (d w)) where
+module _ {A B C D : Type 0} (w : LinkWorld) (g : Trail LinkKey LinkFact A C) (h : Trail LinkKey LinkFact A D) (c : Lookup (List C)) (d : Lookup (List D))
+    (f : List C × List D → Lookup (List B)) (old : Trail LinkKey LinkFact A B) (a : IsAsked g (c w)) (b : IsAsked h (d w)) where
   abbrev both_notes : Trail LinkKey LinkFact A B
   both_notes = plus (plus old [] g.waits g.looks) [] h.waits h.looks
 
@@ -322,7 +375,8 @@ module _ {A B C D : Type 0} (w : LinkWorld) (g : Trail LinkKey LinkFact A C) (h 
   both_sound (Finds y) x = absurd x
   both_sound (Awaits k) x = both_waits (c w).step (d w).step g.waits h.waits a.step b.step x
     where
-      both_waits : (m : Step LinkKey (List C)) (n : Step LinkKey (List D)) (us vs : List LinkKey) → IsStep g.found us m → IsStep h.found vs n → WaitsOn (both_step m n) k → IsMember (keys (keys old.waits us) vs) k
+      both_waits : (m : Step LinkKey (List C)) (n : Step LinkKey (List D)) (us vs : List LinkKey) → IsStep g.found us m → IsStep h.found vs n
+          → WaitsOn (both_step m n) k → IsMember (keys (keys old.waits us) vs) k
       both_waits (Done xs) (Done ys) us vs p q x = absurd x
       both_waits (Done xs) (Waits ls) us [] p q x = absurd q
       both_waits (Done xs) (Waits ls) us (v ∷ vs) p q x = key_right (keys old.waits us) (v ∷ vs) k (q.right k x)
@@ -346,14 +400,16 @@ module _ {A B C D : Type 0} (w : LinkWorld) (g : Trail LinkKey LinkFact A C) (h 
     | inr r ↦ inr (right_waits (c w).step (d w).step g.waits h.waits a.step b.step r)
   ]
     where
-      left_waits : (m : Step LinkKey (List C)) (n : Step LinkKey (List D)) (us vs : List LinkKey) → IsStep g.found us m → IsStep h.found vs n → IsMember us q → WaitsOn (both_step m n) q
+      left_waits : (m : Step LinkKey (List C)) (n : Step LinkKey (List D)) (us vs : List LinkKey) → IsStep g.found us m → IsStep h.found vs n → IsMember us q
+          → WaitsOn (both_step m n) q
       left_waits (Done xs) n [] vs p e x = absurd x
       left_waits (Done xs) n (u ∷ us) vs p e x = absurd p
       left_waits (Waits ks) n [] vs p e x = absurd p
       left_waits (Waits ks) (Done ys) (u ∷ us) vs p e x = p.left q x
       left_waits (Waits ks) (Waits ls) (u ∷ us) vs p e x = member_left ks ls q (p.left q x)
 
-      right_waits : (m : Step LinkKey (List C)) (n : Step LinkKey (List D)) (us vs : List LinkKey) → IsStep g.found us m → IsStep h.found vs n → IsMember vs q → WaitsOn (both_step m n) q
+      right_waits : (m : Step LinkKey (List C)) (n : Step LinkKey (List D)) (us vs : List LinkKey) → IsStep g.found us m → IsStep h.found vs n
+          → IsMember vs q → WaitsOn (both_step m n) q
       right_waits m (Done ys) us [] p e x = absurd x
       right_waits m (Done ys) us (v ∷ vs) p e x = absurd e
       right_waits m (Waits ls) us [] p e x = absurd e
@@ -374,11 +430,16 @@ module _ {A B C D : Type 0} (w : LinkWorld) (g : Trail LinkKey LinkFact A C) (h 
   pub gained_both_stop : (g.waits ≡ [] → h.waits ≡ [] → ⊥) → Gained ((both c d >>= f) w) old both_notes
   gained_both_stop some = record {
     kept = both_kept;
-    shown = λ y s. elim (shows_then w (both c d) f y s) [ inl aside ↦ both_sound y aside | inr x ↦ absurd (never (c w).step (d w).step g.waits h.waits a.step b.step some x.0 x.1) ];
+    shown = λ y s. elim (shows_then w (both c d) f y s) [
+      | inl aside ↦ both_sound y aside
+      | inr x ↦ absurd (never (c w).step
+          (d w).step g.waits h.waits a.step b.step some x.0 x.1)
+    ];
     only = λ y k. elim (both_back y k) [ inl o ↦ inl o | inr aside ↦ inr (admits_first w (both c d) f y aside) ];
   }
     where
-      never : (m : Step LinkKey (List C)) (n : Step LinkKey (List D)) (us vs : List LinkKey) → IsStep g.found us m → IsStep h.found vs n → (us ≡ [] → vs ≡ [] → ⊥) → (p : List C × List D) → both_step m n ≡ Done p → ⊥
+      never : (m : Step LinkKey (List C)) (n : Step LinkKey (List D)) (us vs : List LinkKey) → IsStep g.found us m → IsStep h.found vs n → (us ≡ [] → vs ≡ []
+          → ⊥) → (p : List C × List D) → both_step m n ≡ Done p → ⊥
       never (Done xs) (Done ys) [] [] p q some x e = some refl refl
       never (Done xs) (Done ys) [] (v ∷ vs) p q some x e = q
       never (Done xs) (Done ys) (u ∷ us) vs p q some x e = p
@@ -387,7 +448,8 @@ module _ {A B C D : Type 0} (w : LinkWorld) (g : Trail LinkKey LinkFact A C) (h 
       never (Waits ks) (Waits ls) us vs p q some x e = (let none : ⊥ = cc in none)
 
   -- a stage of two parts that are done
-  pub gained_both_on : (new : Trail LinkKey LinkFact A B) → g.waits ≡ [] → h.waits ≡ [] → ((xs ys : List C) (us vs : List D) → SameMembers xs ys → SameMembers us vs → Alike (f (xs, us) w) (f (ys, vs) w))
+  pub gained_both_on : (new : Trail LinkKey LinkFact A B) → g.waits ≡ [] → h.waits ≡ [] → ((xs ys : List C) (us vs : List D) → SameMembers xs ys
+      → SameMembers us vs → Alike (f (xs, us) w) (f (ys, vs) w))
       → Gained (f (g.found, h.found) w) both_notes new → Gained ((both c d >>= f) w) old new
   gained_both_on new n1 n2 same e =
       let p = finished g.found (c w).step g.waits a.step n1 in
@@ -406,7 +468,8 @@ module _ {A B C D : Type 0} (w : LinkWorld) (g : Trail LinkKey LinkFact A C) (h 
         ];
       }
     where
-      finished : {X : Type 0} (found : List X) (step : Step LinkKey (List X)) (waits : List LinkKey) → IsStep found waits step → waits ≡ [] → (ys : List X) × (step ≡ Done ys) × SameMembers found ys
+      finished : {X : Type 0} (found : List X) (step : Step LinkKey (List X)) (waits : List LinkKey) → IsStep found waits step → waits ≡ []
+          → (ys : List X) × (step ≡ Done ys) × SameMembers found ys
       finished found (Done ys) [] s e = (ys, refl, s)
       finished found (Done ys) (v ∷ vs) s e = absurd s
       finished found (Waits ks) [] s e = absurd s
@@ -419,24 +482,31 @@ module _ {A B C D : Type 0} (w : LinkWorld) (g : Trail LinkKey LinkFact A C) (h 
 abbrev pub gains_of : {B : Type 0} → List B → Noted → Trail LinkKey LinkFact ElementNo B
 gains_of found notes = record { nodes = []; found = found; waits = notes.waits; looks = notes.looks }
 
-pub mapped_by : {B C D : Type 0} (w : LinkWorld) (g : Trail LinkKey LinkFact D C) (c : Lookup (List C)) (f : C → B) (found more : List B) (old mid : Noted) → IsAsked g (c w) → more ≡ found ++ map f g.found → mid ≡ noted g.waits g.looks old
+pub mapped_by : {B C D : Type 0} (w : LinkWorld) (g : Trail LinkKey LinkFact D C) (c : Lookup (List C)) (f : C → B) (found more : List B) (old mid : Noted)
+    → IsAsked g (c w) → more ≡ found ++ map f g.found → mid ≡ noted g.waits g.looks old
     → Gained ((c >>= λ xs. done (map f xs)) w) (gains_of found old) (gains_of more mid)
-mapped_by w g c f found more old mid h e is = subst (Gained ((c >>= λ xs. done (map f xs)) w) (gains_of found old)) (λ i. gains_of (sym e i) (sym is i)) (gained_mapped w g c f (gains_of found old) h)
+mapped_by w g c f found more old mid h e is = subst (Gained ((c >>= λ xs. done (map f xs)) w) (gains_of found old)) (λ i. gains_of (sym e i) (sym is i))
+    (gained_mapped w g c f (gains_of found old) h)
 
-pub begins_empty : {B : Type 0} (start : Trail LinkKey LinkFact ElementNo B) → start ≡ record { nodes = []; found = []; waits = []; looks = [] } → start ≡ record { nodes = start.nodes; found = []; waits = []; looks = [] }
-begins_empty {B} start e = e ∙ ap (λ ns. record { nodes = ns; found = []; waits = []; looks = [] }) (sym (ap (λ (t : Trail LinkKey LinkFact ElementNo B). t.nodes) e))
+pub begins_empty : {B : Type 0} (start : Trail LinkKey LinkFact ElementNo B) → start ≡ record { nodes = []; found = []; waits = []; looks = [] }
+    → start ≡ record { nodes = start.nodes; found = []; waits = []; looks = [] }
+begins_empty {B} start e = e ∙ ap (λ ns. record { nodes = ns; found = []; waits = []; looks = [] }) (sym (ap (λ
+    (t : Trail LinkKey LinkFact ElementNo B). t.nodes) e))
 
-module _ {B C D : Type 0} (w : LinkWorld) (g : Trail LinkKey LinkFact D C) (c : Lookup (List C)) (f : List C → Lookup (List B)) (found : List B) (old mid : Noted) (h : IsAsked g (c w)) (is : mid ≡ noted g.waits g.looks old) where
+module _ {B C D : Type 0} (w : LinkWorld) (g : Trail LinkKey LinkFact D C) (c : Lookup (List C)) (f : List C
+    → Lookup (List B)) (found : List B) (old mid : Noted) (h : IsAsked g (c w)) (is : mid ≡ noted g.waits g.looks old) where
   after_notes : plus (gains_of found old) [] g.waits g.looks ≡ gains_of found mid
   after_notes = λ i. gains_of (append-nil found i) (sym is i)
 
   pub stop_by : (g.waits ≡ [] → ⊥) → Gained ((c >>= f) w) (gains_of found old) (gains_of found mid)
   stop_by some = subst (Gained ((c >>= f) w) (gains_of found old)) after_notes (gained_stop w g c f (gains_of found old) h some)
 
-  pub goes_on_by : (new : Trail LinkKey LinkFact ElementNo B) → g.waits ≡ [] → ((xs ys : List C) → SameMembers xs ys → Alike (f xs w) (f ys w)) → Gained (f g.found w) (gains_of found mid) new → Gained ((c >>= f) w) (gains_of found old) new
+  pub goes_on_by : (new : Trail LinkKey LinkFact ElementNo B) → g.waits ≡ [] → ((xs ys : List C) → SameMembers xs ys → Alike (f xs w) (f ys w))
+      → Gained (f g.found w) (gains_of found mid) new → Gained ((c >>= f) w) (gains_of found old) new
   goes_on_by new none same d = gained_goes_on w g c f (gains_of found old) new h none same (subst (λ z. Gained (f g.found w) z new) (sym after_notes) d)
 
-module _ {B C D : Type 0} (w : LinkWorld) (g : Trail LinkKey LinkFact ElementNo C) (h : Trail LinkKey LinkFact ElementNo D) (c : Lookup (List C)) (d : Lookup (List D)) (f : List C × List D → Lookup (List B)) (found : List B) (old mid last : Noted) (a : IsAsked g (c w)) (b : IsAsked h (d w))
+module _ {B C D : Type 0} (w : LinkWorld) (g : Trail LinkKey LinkFact ElementNo C) (h : Trail LinkKey LinkFact ElementNo D) (c : Lookup (List C)) (d : Lookup
+    (List D)) (f : List C × List D → Lookup (List B)) (found : List B) (old mid last : Noted) (a : IsAsked g (c w)) (b : IsAsked h (d w))
     (is : mid ≡ noted g.waits g.looks old) (too : last ≡ noted h.waits h.looks mid) where
   after_both : plus (plus (gains_of found old) [] g.waits g.looks) [] h.waits h.looks ≡ gains_of found last
   after_both = ap (λ z. plus z [] h.waits h.looks) (λ i. gains_of (append-nil found i) (sym is i)) ∙ λ i. gains_of (append-nil found i) (sym too i)
@@ -444,8 +514,11 @@ module _ {B C D : Type 0} (w : LinkWorld) (g : Trail LinkKey LinkFact ElementNo 
   pub both_stop_by : (g.waits ≡ [] → h.waits ≡ [] → ⊥) → Gained ((both c d >>= f) w) (gains_of found old) (gains_of found last)
   both_stop_by some = subst (Gained ((both c d >>= f) w) (gains_of found old)) after_both (gained_both_stop w g h c d f (gains_of found old) a b some)
 
-  pub both_on_by : (new : Trail LinkKey LinkFact ElementNo B) → g.waits ≡ [] → h.waits ≡ [] → ((xs ys : List C) (us vs : List D) → SameMembers xs ys → SameMembers us vs → Alike (f (xs, us) w) (f (ys, vs) w)) → Gained (f (g.found, h.found) w) (gains_of found last) new → Gained ((both c d >>= f) w) (gains_of found old) new
-  both_on_by new n1 n2 same e = gained_both_on w g h c d f (gains_of found old) a b new n1 n2 same (subst (λ z. Gained (f (g.found, h.found) w) z new) (sym after_both) e)
+  pub both_on_by : (new : Trail LinkKey LinkFact ElementNo B) → g.waits ≡ [] → h.waits ≡ [] → ((xs ys : List C) (us vs : List D) → SameMembers xs ys
+      → SameMembers us vs → Alike (f (xs, us) w) (f (ys, vs) w)) → Gained (f (g.found, h.found) w) (gains_of found last) new
+      → Gained ((both c d >>= f) w) (gains_of found old) new
+  both_on_by new n1 n2 same e = gained_both_on w g h c d f (gains_of found old) a b new n1 n2 same (subst (λ z. Gained (f (g.found, h.found) w) z new)
+      (sym after_both) e)
 
 -- whether an asking waits
 pub waits_some : {A : Type 0} (ws : List A) → not (is_nil ws) ≡ true → ws ≡ [] → ⊥
@@ -457,7 +530,8 @@ waits_none [] e = refl
 waits_none (v ∷ ws) e = cc
 
 -- a member is added, where the test says so
-pub gained_if : {B : Type 0} (w : LinkWorld) (b : Bool) (x : B) (found : List B) (notes : Noted) → Gained (done (only_if b x) w) (gains_of found notes) (gains_of (found ++ only_if b x) notes)
+pub gained_if : {B : Type 0} (w : LinkWorld) (b : Bool) (x : B) (found : List B) (notes : Noted)
+    → Gained (done (only_if b x) w) (gains_of found notes) (gains_of (found ++ only_if b x) notes)
 gained_if w b x found notes =
     gained_asked (record { nodes = the_none; found = only_if b x; waits = []; looks = [] }) (done (only_if b x) w) (gains_of found notes)
     (record { step = record { left = λ y m. m; right = λ y m. m }; looks = record { left = λ y m. m; right = λ y m. m } })

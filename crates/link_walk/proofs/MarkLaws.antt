@@ -1,12 +1,11 @@
 -- Marked values: what is marked stays marked, and nothing else is.
 use Rattle.std.proofs.Common.{◌≡◌, ℕ, ◌+◌, ◌<◌, length, get_or, drop, drop-cons, add-one, Bool, true, false, cond, List, [], ◌∷◌, ◌++◌, refl, sym, ◌∙◌, ap, subst, inl, inr, append_assoc, append-nil}
 use Rattle.std.proofs.Common.{arith}
-use Rattle.std.specs.Prelude.{◌⊎◌, nat_eq, ◌&&◌, zero, suc}
+use Rattle.std.specs.Prelude.{◌⊎◌, nat_eq, zero, suc}
 use Rattle.std.specs.List.{list_any}
 use Rattle.std.specs.Cmp.Lexicographic.{pointwise}
 use Rattle.std.proofs.lemmas.Bool.Decides.{nat_tests}
 use Rattle.linker_base.specs.Members.{IsMember, SameMembers, IsEachOnce, IsExact}
-use Rattle.linker_base.proofs.Cases.{bool_cases}
 use Rattle.linker_base.proofs.MemberLaws.{member_left, member_right, member_cases, member_test, test_member}
 use Rattle.demand_core.specs.Search.{IsRoom}
 use Rattle.demand_core.specs.declared.looks.Fact.{Fact}
@@ -44,7 +43,8 @@ module _ {A : Type 0} (same : A → A → Bool) (exact : IsExact same) where
 
   once_by : (e : A) (nodes : List A) (b : Bool) → list_any (same e) nodes ≡ b → IsEachOnce nodes → IsEachOnce (cond b nodes (nodes ++ e ∷ []))
   once_by e nodes true there h = h
-  once_by e nodes false there h = once_last e nodes h (λ m. let no : true ≡ false = sym (member_test same exact nodes e m) ∙ there in (let none : ⊥ = cc in none))
+  once_by e nodes false there h = once_last e nodes h (λ m. let no : true ≡ false = sym (member_test same exact nodes e m)
+      ∙ there in (let none : ⊥ = cc in none))
 
   -- what is marked stays marked
   pub all_kept : (es nodes : List A) (t : A) → IsMember nodes t → IsMember (marked_all same nodes es) t
@@ -54,7 +54,8 @@ module _ {A : Type 0} (same : A → A → Bool) (exact : IsExact same) where
   -- each of these is marked afterwards
   pub all_now : (es nodes : List A) (t : A) → IsMember es t → IsMember (marked_all same nodes es) t
   all_now [] nodes t m = absurd m
-  all_now (e ∷ es) nodes t (inl is) = all_kept es (marked same nodes e) t (subst (IsMember (marked same nodes e)) is (now_by e nodes (list_any (same e) nodes) refl))
+  all_now (e ∷ es) nodes t (inl is) = all_kept es (marked same nodes e) t (subst (IsMember (marked same nodes e)) is (now_by e nodes (list_any
+      (same e) nodes) refl))
   all_now (e ∷ es) nodes t (inr m) = all_now es (marked same nodes e) t m
 
   -- and nothing else
@@ -80,7 +81,8 @@ module _ {A : Type 0} (same : A → A → Bool) (exact : IsExact same) where
 
   pub all_room : (all es nodes : List A) → ((e : A) → IsMember es e → IsMember all e) → IsRoom same all nodes → IsRoom same all (marked_all same nodes es)
   all_room all [] nodes fit r = r
-  all_room all (e ∷ es) nodes fit r = all_room all es (marked same nodes e) (λ t m. fit t (inr m)) (room_marked same exact e all nodes (fit e (inl refl)) (list_any (same e) nodes) refl r)
+  all_room all (e ∷ es) nodes fit r = all_room all es (marked same nodes e) (λ t m. fit t (inr m)) (room_marked same exact e all nodes (fit e (inl refl))
+      (list_any (same e) nodes) refl r)
 
   -- marks on nothing have the same members
   pub marks_same : (es : List A) → SameMembers (marked_all same [] es) es
@@ -92,10 +94,12 @@ marked_append same nodes [] fs = refl
 marked_append same nodes (e ∷ es) fs = marked_append same (marked same nodes e) es fs
 
 -- one more is marked, of a list of them
-pub marks_next : {A : Type 0} (same : A → A → Bool) (xs : List A) (i : ℕ) (d : A) (mid new whole : List A) → i < length xs → new ≡ marked same mid (get_or xs i d)
+pub marks_next : {A : Type 0} (same : A → A → Bool) (xs : List A) (i : ℕ) (d : A) (mid new whole : List A) → i < length xs
+    → new ≡ marked same mid (get_or xs i d)
     → marked_all same mid (drop i xs) ≡ whole → marked_all same new (drop (i + 1) xs) ≡ whole
 marks_next same xs i d mid new whole lt is h =
-    ap (λ m. marked_all same m (drop (i + 1) xs)) is ∙ (ap (marked_all same mid) (sym (drop-cons xs i d lt ∙ ap (λ j. get_or xs i d ∷ drop j xs) (sym (add-one i)))) ∙ h)
+    ap (λ m. marked_all same m (drop (i + 1) xs)) is ∙ (ap (marked_all same mid) (sym (drop-cons xs i d lt
+    ∙ ap (λ j. get_or xs i d ∷ drop j xs) (sym (add-one i)))) ∙ h)
 
 -- an item of a list
 pub get_among : {A : Type 0} (xs : List A) (i : ℕ) (d : A) → i < length xs → IsMember xs (get_or xs i d)

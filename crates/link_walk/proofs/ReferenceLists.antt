@@ -29,7 +29,8 @@ module _ {A : Type 0} (test : A → Bool) where
   chosen_more false n ns ms = refl
 
   -- the items from a place on fail
-  rest_fails : (n i : ℕ) (xs : List A) → ((k : ℕ) (x : A) → slice_get xs k ≡ Some x → i ≤ k → test x ≡ false) → numbers_from n test xs ≡ numbers_from n test (take i xs)
+  rest_fails : (n i : ℕ) (xs : List A) → ((k : ℕ) (x : A) → slice_get xs k ≡ Some x → i ≤ k → test x ≡ false)
+      → numbers_from n test xs ≡ numbers_from n test (take i xs)
   rest_fails n zero [] h = refl
   rest_fails n (suc i) [] h = refl
   rest_fails n zero (x ∷ xs) h =
@@ -46,7 +47,8 @@ module _ {A : Type 0} (test : A → Bool) where
       ∙ front_fails (suc n) i xs (λ k y at le. h (suc k) y at (omega arith))
 
   -- one item more
-  one_more : (n i : ℕ) (xs : List A) (x : A) → slice_get xs i ≡ Some x → numbers_from n test (take (suc i) xs) ≡ numbers_from n test (take i xs) ++ chosen (test x) (n + i) []
+  one_more : (n i : ℕ) (xs : List A) (x : A) → slice_get xs i ≡ Some x → numbers_from n test (take (suc i) xs)
+      ≡ numbers_from n test (take i xs) ++ chosen (test x) (n + i) []
   one_more n i [] x at = cc
   one_more n zero (y ∷ xs) x at = let same : y ≡ x = cc in λ j. chosen (test (same j)) (here j) []
     where
@@ -97,7 +99,8 @@ module _ (fits : Role → Bool) (d : Data) (e : ElementNo) where
         is r there.1 ∙ (ap (λ ks. ks ++ only_if (fits r.role) (key e.file n)) h ∙ sym (ap (λ m. wanted_before m) one
         ∙ (ap (map (key e.file)) (one_more test_of 0 n d.references r there.1)
         ∙ (map-append (key e.file) (numbers_from 0 test_of (take n d.references)) (chosen (test_of r) (0 + n) [])
-        ∙ ap (λ ks. wanted_before n ++ ks) (chosen_key e (test_of r) (0 + n) ∙ λ j. only_if (own_right r.context e.index (fits r.role) own j) (key e.file (plain j)))))))
+        ∙ ap (λ ks. wanted_before n ++ ks) (chosen_key e (test_of r) (0 + n) ∙ λ j. only_if (own_right r.context e.index (fits r.role) own j) (key e.file
+        (plain j)))))))
       where
         plain : 0 + n ≡ n
         plain = omega arith

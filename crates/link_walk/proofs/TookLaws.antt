@@ -1,5 +1,5 @@
 -- Code that does to its trail what `expanded` says expands a node.
-use Rattle.std.proofs.Common.{◌≡◌, Bool, List, [], ◌∷◌, ◌++◌, refl, sym, ◌∙◌, ap, subst, inl, inr, append_assoc, append-nil}
+use Rattle.std.proofs.Common.{◌≡◌, List, [], ◌∷◌, ◌++◌, refl, sym, ◌∙◌, ap, subst, inl, inr, append_assoc, append-nil}
 use Rattle.std.specs.Prelude.{◌⊎◌, map, drop, length, get_or, ◌<◌, ◌≤◌, ◌+◌, ℕ, zero, suc}
 use Rattle.std.proofs.Common.{drop-cons, add-one, arith}
 use Rattle.linker_base.specs.Members.{IsMember}
@@ -9,7 +9,7 @@ use Rattle.demand_core.specs.Rules.{WaitsOn}
 use Rattle.demand_core.specs.declared.looks.Fact.{Fact}
 use Rattle.demand_core.specs.declared.step.Step.{Step}
 use Rattle.demand_core.specs.declared.step.Step.TheVariants.{Done, Waits}
-use Rattle.demand_core.specs.Search.{Part, Finds, Awaits, LooksAt, Aside, LedShows, LedOn, Goes, IsKnown, IsRoom, Takes, AddsAside, Expands}
+use Rattle.demand_core.specs.Search.{Part, Finds, Awaits, LooksAt, Aside, LedShows, LedOn, IsKnown, IsRoom, Takes, AddsAside, Expands}
 use Rattle.demand_core.proofs.SearchLaws.{takes_none, takes_more, takes_over}
 use Rattle.element_store.specs.declared.numbers.ElementNo.{ElementNo}
 use Rattle.link_model.specs.declared.keys.LinkKey.{LinkKey}
@@ -17,7 +17,7 @@ use Rattle.link_model.specs.declared.keys.LinkFact.{LinkFact}
 use Rattle.link_model.specs.Keys.{same_element, same_key, element_is_exact, key_is_exact}
 use Rattle.link_model.specs.Readers.{Lookup, LinkWorld}
 use Rattle.link_walk.specs.Marks.{marked_all, same_fact}
-use Rattle.link_walk.specs.Noted.{Asks, LinkTrail}
+use Rattle.link_walk.specs.Noted.{LinkTrail}
 use Rattle.link_walk.specs.Took.{with_waits, with_looks, led, took, took_all, expanded_step, expanded}
 use Rattle.link_walk.proofs.MarkLaws.{all_kept, all_now, all_new, all_grown, all_room, fact_is_exact}
 
@@ -45,7 +45,8 @@ Brings fs ws gs (Finds y) = IsMember fs y
 Brings fs ws gs (Awaits k) = IsMember ws k
 Brings fs ws gs (LooksAt f) = IsMember gs f
 
-brings_of : {B : Type 0} (step : Step LinkKey (Led B ElementNo)) (looks : Facts) (x : LinkPart B) → LedShows (record { step = step; looks = looks }) x → Brings (found_in step) (waits_in step) looks x
+brings_of : {B : Type 0} (step : Step LinkKey (Led B ElementNo)) (looks : Facts) (x : LinkPart B) → LedShows (record { step = step; looks = looks }) x
+    → Brings (found_in step) (waits_in step) looks x
 brings_of (Done r) looks (Finds y) h = h
 brings_of (Done r) looks (Awaits k) h = h
 brings_of (Done r) looks (LooksAt f) h = h
@@ -53,7 +54,8 @@ brings_of (Waits ks) looks (Finds y) h = h
 brings_of (Waits ks) looks (Awaits k) h = h
 brings_of (Waits ks) looks (LooksAt f) h = h
 
-of_brings : {B : Type 0} (step : Step LinkKey (Led B ElementNo)) (looks : Facts) (x : LinkPart B) → Brings (found_in step) (waits_in step) looks x → LedShows (record { step = step; looks = looks }) x
+of_brings : {B : Type 0} (step : Step LinkKey (Led B ElementNo)) (looks : Facts) (x : LinkPart B) → Brings (found_in step) (waits_in step) looks x
+    → LedShows (record { step = step; looks = looks }) x
 of_brings (Done r) looks (Finds y) h = h
 of_brings (Done r) looks (Awaits k) h = h
 of_brings (Done r) looks (LooksAt f) h = h
@@ -91,9 +93,16 @@ module _ {B : Type 0} (t : LinkTrail B) (ns : List ElementNo) (fs : List B) (ws 
 
 module _ {L B : Type 0} (links : ElementNo → Lookup (List L)) (leads : L → Lookup (Led B ElementNo)) (w : LinkWorld) where
   led_longer : (t : LinkTrail B) (step : Step LinkKey (Led B ElementNo)) (gs : Facts)
-      → led (record t { looks = marked_all same_fact t.looks gs }) step ≡ longer t (marked_all same_element t.nodes (onward_in step)) (found_in step) (waits_in step) gs
+      → led (record t { looks = marked_all same_fact t.looks gs }) step ≡ longer t (marked_all same_element t.nodes (onward_in step)) (found_in step)
+      (waits_in step) gs
   led_longer t (Done r) gs = refl
-  led_longer t (Waits ks) gs = λ i. record { nodes = t.nodes; found = sym (append-nil t.found) i; waits = marked_all same_key t.waits ks; looks = marked_all same_fact t.looks gs }
+  led_longer t (Waits ks) gs = λ i. record {
+    nodes = t.nodes;
+    found = sym
+        (append-nil t.found) i;
+    waits = marked_all same_key t.waits ks;
+    looks = marked_all same_fact t.looks gs;
+  }
 
   -- a link is taken
   takes_one : (l : L) (t : LinkTrail B) → Takes links leads w same_element [] (l ∷ []) t (took (leads l w) t)

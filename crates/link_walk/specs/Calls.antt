@@ -1,13 +1,14 @@
 -- What the calls' clauses say of the definitions.
-use Rattle.std.specs.Prelude.{◌≡◌, ℕ, ◌<◌, ◌+◌, List, [], ◌∷◌, map, length, Option, None, Some}
+use Rattle.std.specs.Prelude.{◌≡◌, ◌<◌, List, [], ◌∷◌, map, length, Option, None, Some}
 use Rattle.std.specs.List.{flat_map}
 use Rattle.std.specs.Option.{option_map_or}
-use Rattle.linker_base.specs.Members.{IsMember, SameMembers, Adds}
+use Rattle.linker_base.specs.Members.{IsMember, IsEachOnce, SameMembers, Adds}
 use Rattle.demand_core.specs.Rules.{AllFit}
 use Rattle.demand_core.specs.Tables.{entry_of}
 use Rattle.demand_core.specs.Computation.{done, ◌>>=◌}
 use Rattle.demand_core.specs.Computed.{world}
 use Rattle.demand_core.specs.Gather.{Led}
+use Rattle.demand_core.specs.Search.{Goes}
 use Rattle.demand_core.specs.declared.looks.Fact.{Fact}
 use Rattle.demand_core.specs.declared.step.Step.{Step}
 use Rattle.demand_core.specs.declared.step.Step.TheVariants as step
@@ -19,12 +20,11 @@ use Rattle.element_store.specs.declared.outcome.Outcome.{Outcome}
 use Rattle.element_store.specs.declared.models.StoredFile.{StoredFile}
 use Rattle.element_store.specs.Model.{Data}
 use Rattle.element_store.specs.Numbers.{places_from}
-use Rattle.element_store.specs.Stored.{AreFiles}
 use Rattle.element_store.specs.BaseRules.{StandsIn, model_of}
 use Rattle.link_model.specs.declared.keys.LinkKey.{LinkKey}
 use Rattle.link_model.specs.declared.view.View.{View}
 use Rattle.link_model.specs.declared.keys.LinkFact.{LinkFact}
-use Rattle.link_model.specs.Keys.{same_key}
+use Rattle.link_model.specs.Keys.{same_element, same_key}
 use Rattle.link_model.specs.Outside.{seen_in, Numbered, numbered_from}
 use Rattle.link_model.specs.Readers.{LinkWorld, Lookup}
 use Rattle.link_model.specs.Linking.{Fits}
@@ -90,6 +90,22 @@ LeadsIn files other = Unit {0}
 -- what is found by a link is where the search goes on
 abbrev pub ends : {L : Type 0} → (L → Lookup (List ElementNo)) → L → Lookup (Led ElementNo ElementNo)
 ends c l = c l >>= λ ts. done (record { found = ts; onward = ts })
+
+-- from these elements links go on at these alone
+abbrev pub StaysAmong : {L B : Type 0} → (ElementNo → Lookup (List L)) → (L → Lookup (Led B ElementNo)) → LinkWorld
+    → List ElementNo → Type 0
+StaysAmong links leads w all =
+    (a t : ElementNo) → IsMember all a → Goes links leads w same_element a t → IsMember all t
+
+-- the answer, if there is one, is this
+abbrev pub IsAnswer : {A : Type 0} → A → Found A → Type 0
+IsAnswer x (found.Done y) = y ≡ x
+IsAnswer x (found.Waits rs) = Unit {0}
+
+-- in the answer, if there is one, nothing comes twice
+abbrev pub IsOnce : {A : Type 0} → Found (List A) → Type 0
+IsOnce (found.Done xs) = IsEachOnce xs
+IsOnce (found.Waits rs) = Unit {0}
 
 -- the elements of a file, and those of all files
 abbrev pub elements_in : Numbered → List ElementNo

@@ -1,5 +1,5 @@
 -- Marks: each value once, in the order in which it was marked first.
-use Rattle.std.specs.Prelude.{◌≡◌, Bool, true, false, cond, nat_eq, List, [], ◌∷◌, ◌++◌}
+use Rattle.std.specs.Prelude.{Bool, false, cond, nat_eq, List, [], ◌∷◌, ◌++◌}
 use Rattle.std.specs.List.{list_any}
 use Rattle.std.specs.Cmp.Lexicographic.{pointwise}
 use Rattle.demand_core.specs.declared.looks.Fact.{Fact}

@@ -1,5 +1,5 @@
 -- What code notes of an asking.
-use Rattle.std.specs.Prelude.{◌≡◌, List, [], ◌∷◌, ◌++◌, Option, None, Some}
+use Rattle.std.specs.Prelude.{◌≡◌, List, [], Option, None}
 use Rattle.demand_core.specs.Computation.{Asked}
 use Rattle.demand_core.specs.Search.{Trail}
 use Rattle.demand_core.specs.declared.looks.Fact.{Fact}

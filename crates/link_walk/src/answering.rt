@@ -1,6 +1,6 @@
 ghost use Rattle.std.specs.Prelude.{◌≡◌, List, IfOk, OnOk};
 ghost use Rattle.demand_core.specs.Search.{IsAsked};
-ghost use Rattle.link_walk.specs.Calls.{Answers, AddsLooks, keys_for};
+ghost use Rattle.link_walk.specs.Calls.{Answers, IsAnswer, AddsLooks, keys_for};
 ghost use Rattle.link_walk.specs.Noted.{Asks};
 
 use crate::gains::Gains;
@@ -39,8 +39,11 @@ pub fn answer<B: Drop>(
     gains: Gains<B>,
     looks: &mut LinkLooks,
 ) -> Result<Found<Listing<B>>, NoMemory>
-    ensures found { IfOk result (λ found. (a : Asks (List B)) → IsAsked gains a → Answers found a.step) }
-    ensures looks { OnOk result ((a : Asks (List B)) → IsAsked gains a → AddsLooks looks.old looks.new a) }
+    ensures found { IfOk result (λ found. (a : Asks (List B)) → IsAsked gains a
+        → Answers found a.step) }
+    ensures given { IfOk result (IsAnswer gains.found) }
+    ensures looks { OnOk result ((a : Asks (List B)) → IsAsked gains a
+        → AddsLooks looks.old looks.new a) }
 {
     gains.notes.tell(looks)?;
     if gains.notes.is_waiting() {

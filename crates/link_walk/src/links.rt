@@ -2,10 +2,11 @@ ghost use Rattle.std.specs.Prelude.{List, [], OnOk};
 ghost use Rattle.linker_base.specs.Members.{IsMember};
 ghost use Rattle.demand_core.specs.Computation.{IsRegular};
 ghost use Rattle.demand_core.specs.Gather.{Led};
-ghost use Rattle.demand_core.specs.Search.{Goes, Expands};
+ghost use Rattle.demand_core.specs.Search.{Expands};
 ghost use Rattle.element_store.specs.declared.numbers.ElementNo.{ElementNo};
 ghost use Rattle.link_model.specs.Keys.{same_element};
 ghost use Rattle.link_model.specs.Readers.{Lookup, LinkWorld};
+ghost use Rattle.link_walk.specs.Calls.{StaysAmong};
 
 use crate::trail::Trail;
 use element_store::ElementNo;
@@ -39,8 +40,8 @@ pub trait Links<B> {
             same_element [] node trail.old trail.new) };
 
     /// Links go on at these elements alone.
-    ghost closed: { (w : Self) → valid w → (a t : ElementNo) → IsMember (all w) a
-        → Goes (links w) (leads w) (world w) same_element a t → IsMember (all w) t };
+    ghost closed: { (w : Self) → valid w
+        → StaysAmong (links w) (leads w) (world w) (all w) };
 
     /// Reading links is regular.
     ghost regular_links: { (w : Self) (a : ElementNo) → IsRegular (links w a) };

@@ -24,7 +24,8 @@ pub fn walk<B: Drop, W: Links<B>>(
     requires few { length (W.all ways.now) < most }
     requires there { (a : ElementNo) → IsMember starts.now a → IsMember (W.all ways.now) a }
     ensures { IfOk result (λ trail. IsAsked trail (joined
-        (gather same_element (W.links ways.now) (W.leads ways.now) most []) starts.now (W.world ways.now))) }
+        (gather same_element (W.links ways.now) (W.leads ways.now) most [])
+        starts.now (W.world ways.now))) }
 {
     let mut trail = Trail::begin(alloc, starts)?;
     let mut next = 0;
@@ -46,7 +47,8 @@ pub fn walk_from<B: Drop, W: Links<B>>(
     requires few { length (W.all ways.now) < most }
     requires there { IsMember (W.all ways.now) start }
     ensures { IfOk result (λ trail. IsAsked trail
-        (gather same_element (W.links ways.now) (W.leads ways.now) most [] start (W.world ways.now))) }
+        (gather same_element (W.links ways.now) (W.leads ways.now) most []
+        start (W.world ways.now))) }
 {
     walk(alloc, ways, [start].as_slice())
 }

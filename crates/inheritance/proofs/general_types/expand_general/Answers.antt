@@ -1,4 +1,4 @@
-use Rattle.std.proofs.Common.{◌≡◌, ◌∙◌, sym, ap, subst}
+use Rattle.std.proofs.Common.{◌≡◌, ◌∙◌, ap, subst}
 use Rattle.linker_base.specs.Members.{IsMember}
 use Rattle.link_model.specs.Inheritance.{is_specialisation, general, general_links}
 use Rattle.link_model.specs.Outside.{library_of}

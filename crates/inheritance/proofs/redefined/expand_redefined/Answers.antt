@@ -7,7 +7,7 @@ use Rattle.link_walk.specs.Noted.{trail_of}
 use Rattle.link_walk.specs.Took.{expanded}
 use Rattle.link_walk.proofs.ReferenceLists.{references_stand}
 use Rattle.inheritance.specs.Sights.{sees}
-use Rattle.inheritance.proofs.ExpandLaws.{feature_expanded, no_feature_expanded, stands_within}
+use Rattle.inheritance.proofs.ExpandLaws.{feature_expanded, no_feature_expanded}
 use Rattle.inheritance.proofs.redefined.expand_redefined.Goals as goal
 
 pub take_redefinitions-requires : goal.take_redefinitions-requires
@@ -20,7 +20,8 @@ pub returns-then-not-is_feature : goal.returns-then-not-is_feature
 returns-then-not-is_feature c =
     let s = c.args.sight.now in
     let files = s.view.now.models.now in
-    subst (λ z. trail_of c.trail.inside.nodes c.trail.inside.found c.model.new.notes ≡ expanded (ends target) (sees s) redefinitions c.args.node z) c.trail.view_is
+    subst (λ z. trail_of c.trail.inside.nodes c.trail.inside.found c.model.new.notes ≡ expanded (ends target)
+    (sees s) redefinitions c.args.node z) c.trail.view_is
     (no_feature_expanded s.settled files s.view.now.table.now c.args.node c.in_ok-of.of.now c.in_ok-of.ensures.stored c.element.result.now
     (trail_of c.trail.inside.nodes c.trail.inside.found c.trail.inside.notes) _ c.element.ensures.lent
     (sym c.is_feature-is_feature.ensures ∙ c.if-not-is_feature.true)

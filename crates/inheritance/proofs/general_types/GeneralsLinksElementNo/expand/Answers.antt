@@ -11,4 +11,5 @@ expand_general-requires-clause-stands c = element_stands c.args.self.now.sight.n
 
 pub returns : goal.returns
 returns c =
-    expands_by (general_links (library_of c.args.self.now.sight.now.view.now.models.now)) (ends general) (sees c.args.self.now.sight.now) c.args.node _ c.expand_general.new.trail c.in_ok-expand_general.ensures
+    expands_by (general_links (library_of c.args.self.now.sight.now.view.now.models.now)) (ends general)
+    (sees c.args.self.now.sight.now) c.args.node _ c.expand_general.new.trail c.in_ok-expand_general.ensures
