@@ -1,6 +1,6 @@
 ghost use Rattle.std.specs.Prelude.{◌≡◌, ◌++◌, [], ◌∷◌, not, OnOk};
 ghost use Rattle.demand_core.specs.declared.looks.Fact.TheVariants.{Key, Outer};
-ghost use Rattle.link_model.specs.declared.keys.LinkFact.TheVariants.{File};
+ghost use Rattle.link_model.specs.declared.keys.LinkFact.TheVariants.{File, RootName};
 ghost use Rattle.link_model.specs.Keys.{same_key};
 ghost use Rattle.link_model.specs.Readers.{is_nil};
 ghost use Rattle.link_walk.specs.Marks.{marked, marked_all, same_fact};
@@ -47,6 +47,13 @@ impl Notes {
         ensures { OnOk result (self.new ≡ noted [] (Outer (File file) ∷ []) self.old) }
     {
         self.looks.mark(Fact::Outer(LinkFact::File(file)))
+    }
+
+    /// Notes a look at the public root members that bear a name.
+    pub fn look_for(&mut self, name: Name) -> Result<(), NoMemory>
+        ensures { OnOk result (self.new ≡ noted [] (Outer (RootName name) ∷ []) self.old) }
+    {
+        self.looks.mark(Fact::Outer(LinkFact::RootName(name)))
     }
 
     /// Notes a look at the outcome of a reference.
