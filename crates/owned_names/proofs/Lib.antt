@@ -1,0 +1,4 @@
+mod BearerLaws
+mod HitLaws
+mod WayLaws
+mod SkipLaws

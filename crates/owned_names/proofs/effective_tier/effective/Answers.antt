@@ -1,0 +1,9 @@
+use Rattle.link_model.specs.Names.{effective}
+use Rattle.link_walk.specs.Calls.{read_by}
+use Rattle.owned_names.proofs.effective_tier.effective.Goals as goal
+
+pub returns-clause-found : goal.returns-clause-found
+returns-clause-found c = c.in_ok-found.ensures.found (effective c.args.name.now c.args.at (read_by c.args.view.now)) c.in_ok-gains.ensures
+
+pub returns-clause-looks : goal.returns-clause-looks
+returns-clause-looks c = c.in_ok-found.ensures.looks (effective c.args.name.now c.args.at (read_by c.args.view.now)) c.in_ok-gains.ensures
