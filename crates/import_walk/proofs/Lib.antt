@@ -1,0 +1,2 @@
+mod DeferLaws
+mod PartLaws

@@ -1,0 +1,13 @@
+//! What is visible in a namespace under a name, and what an import brings (KerML 8.3.2.4,
+//! Namespace::visibleMemberships and Namespace::importedMemberships).
+//!
+//! A namespace whose visible members are still to be looked up is a task on a list, with the
+//! namespaces that are excluded there, so that no way through imports is limited by a call stack.
+#![tactic(auto)]
+
+mod hunt;
+mod tiers;
+mod visibility;
+
+pub use tiers::Tiers;
+pub use visibility::{imported_hits, visible_hits};
