@@ -77,7 +77,8 @@ module _ (lib : Library) (x : List ℕ) (base : ℕ) (files : List StoredFile) (
   pub defers_wider : (m n : ℕ) (a : HitAsked) (old new : HuntTrail) → m ≤ n → Here m a old new → Here n a old new
   defers_wider m n a old new le h = record { added = h.added; grown = h.grown; kept = h.kept; shown = h.shown; only = h.only; pending = h.pending; inside = h.inside; count = (let c = h.count in omega arith) }
 
-  pub defers_join : (m n : ℕ) (c d : Lookup (List Hit)) (old mid new : HuntTrail) → Here m (c w) old mid → Here n (d w) mid new → Here (m + n) (join c d w) old new
+  pub defers_join : (m n : ℕ) (c d : Lookup (List Hit)) (old mid new : HuntTrail) → Here m (c w) old mid → Here n (d w) mid new → Here (m + n)
+      (join c d w) old new
   defers_join m n c d old mid new g h = record {
     added = g.added ++ h.added;
     grown = h.grown ∙ (ap (λ z. z ++ h.added) g.grown ∙ append_assoc old.nodes g.added h.added);
@@ -99,21 +100,26 @@ module _ (lib : Library) (x : List ℕ) (base : ℕ) (files : List StoredFile) (
   }
 
   -- one part more
-  pub defers_next : {A : Type 0} (f : A → Lookup (List Hit)) (xs : List A) (i : ℕ) (d e : A) (old mid new : HuntTrail) → i < length xs → d ≡ get_or xs i e → Here (length (take i xs)) (joined f (take i xs) w) old mid → Here 1 (f d w) mid new
+  pub defers_next : {A : Type 0} (f : A → Lookup (List Hit)) (xs : List A) (i : ℕ) (d e : A) (old mid new : HuntTrail) → i < length xs → d ≡ get_or xs i e
+      → Here (length (take i xs)) (joined f (take i xs) w) old mid → Here 1 (f d w) mid new
       → Here (length (take (i + 1) xs)) (joined f (take (i + 1) xs) w) old new
   defers_next f xs i d e old mid new lt is g h =
       let more : take (i + 1) xs ≡ take i xs ++ d ∷ [] = rw add-one (take-suc xs i e lt) ∙ ap (λ z. take i xs ++ z ∷ []) (sym is) in
       let long : length (take i xs ++ d ∷ []) ≡ length (take i xs) + 1 = length-append (take i xs) (d ∷ []) in
       subst (λ ys. Here (length ys) (joined f ys w) old new) (sym more)
-      (defers_equal (length (take i xs ++ d ∷ [])) (join (joined f (take i xs)) (f d) w) (joined f (take i xs ++ d ∷ []) w) old new (sym (joined_last w f (take i xs) d))
-      (subst (λ n. Here n (join (joined f (take i xs)) (f d) w) old new) (sym long) (defers_join (length (take i xs)) 1 (joined f (take i xs)) (f d) old mid new g h)))
+      (defers_equal (length (take i xs ++ d ∷ [])) (join (joined f (take i xs)) (f d) w) (joined f (take i xs ++ d ∷ []) w) old new (sym (joined_last w f
+          (take i xs) d))
+      (subst (λ n. Here n (join (joined f (take i xs)) (f d) w) old new) (sym long) (defers_join (length (take i xs)) 1 (joined f (take i xs))
+          (f d) old mid new g h)))
 
   -- after the last part
-  pub defers_all : {A : Type 0} (f : A → Lookup (List Hit)) (xs : List A) (i : ℕ) (old new : HuntTrail) → length xs ≤ i → Here (length (take i xs)) (joined f (take i xs) w) old new → Here (length xs) (joined f xs w) old new
+  pub defers_all : {A : Type 0} (f : A → Lookup (List Hit)) (xs : List A) (i : ℕ) (old new : HuntTrail) → length xs ≤ i → Here (length (take i xs))
+      (joined f (take i xs) w) old new → Here (length xs) (joined f xs w) old new
   defers_all f xs i old new done h = subst (λ ys. Here (length ys) (joined f ys w) old new) (take_all i xs done) h
 
   -- a stage that is done, and what follows
-  pub defers_after : {C : Type 0} (n : ℕ) (c : Lookup C) (f : C → Lookup (List Hit)) (v : C) (old mid new : HuntTrail) → (c w).step ≡ Done v → Looked (c w) old mid → Here n (f v w) mid new → Here n ((c >>= f) w) old new
+  pub defers_after : {C : Type 0} (n : ℕ) (c : Lookup C) (f : C → Lookup (List Hit)) (v : C) (old mid new : HuntTrail) → (c w).step ≡ Done v → Looked
+      (c w) old mid → Here n (f v w) mid new → Here n ((c >>= f) w) old new
   defers_after n c f v old mid new is l h = record {
     added = h.added;
     grown = h.grown ∙ ap (λ z. z ++ h.added) l.nodes;
@@ -135,7 +141,8 @@ module _ (lib : Library) (x : List ℕ) (base : ℕ) (files : List StoredFile) (
       same_done u v e = cc
 
   -- a stage that waits
-  pub defers_waits : {C : Type 0} (n : ℕ) (c : Lookup C) (f : C → Lookup (List Hit)) (ks : List LinkKey) (old mid : HuntTrail) → (c w).step ≡ Waits ks → Looked (c w) old mid → Here n ((c >>= f) w) old mid
+  pub defers_waits : {C : Type 0} (n : ℕ) (c : Lookup C) (f : C → Lookup (List Hit)) (ks : List LinkKey) (old mid : HuntTrail) → (c w).step ≡ Waits ks
+      → Looked (c w) old mid → Here n ((c >>= f) w) old mid
   defers_waits n c f ks old mid is l = record {
     added = [];
     grown = l.nodes ∙ sym (append-nil old.nodes);
@@ -152,7 +159,8 @@ module _ (lib : Library) (x : List ℕ) (base : ℕ) (files : List StoredFile) (
 
   -- a task is added
   pub defers_task : (recursive all_members : Bool) (e : ElementNo) (old : HuntTrail) → StandsIn files e
-      → Here 1 (asks_task lib x base (record { excluded = inner; recursive = recursive; all = all_members; namespace = e }) w) old (record { nodes = old.nodes ++ record { excluded = inner; recursive = recursive; all = all_members; namespace = e } ∷ []; found = old.found; waits = old.waits; looks = old.looks })
+      → Here 1 (asks_task lib x base (record { excluded = inner; recursive = recursive; all = all_members; namespace = e }) w) old
+          (record { nodes = old.nodes ++ record { excluded = inner; recursive = recursive; all = all_members; namespace = e } ∷ []; found = old.found; waits = old.waits; looks = old.looks })
   defers_task recursive all_members e old m =
       let t : Task = record { excluded = inner; recursive = recursive; all = all_members; namespace = e } in
       record {
@@ -166,12 +174,14 @@ module _ (lib : Library) (x : List ℕ) (base : ℕ) (files : List StoredFile) (
         count = omega arith;
       }
     where
-      same_known : (y : HitPart) → IsKnown old y → IsKnown (record { nodes = old.nodes ++ record { excluded = inner; recursive = recursive; all = all_members; namespace = e } ∷ []; found = old.found; waits = old.waits; looks = old.looks }) y
+      same_known : (y : HitPart) → IsKnown old y → IsKnown
+          (record { nodes = old.nodes ++ record { excluded = inner; recursive = recursive; all = all_members; namespace = e } ∷ []; found = old.found; waits = old.waits; looks = old.looks }) y
       same_known (Finds h) k = k
       same_known (Awaits q) k = k
       same_known (LooksAt f) k = k
 
-      known_same : (y : HitPart) → IsKnown (record { nodes = old.nodes ++ record { excluded = inner; recursive = recursive; all = all_members; namespace = e } ∷ []; found = old.found; waits = old.waits; looks = old.looks }) y → IsKnown old y
+      known_same : (y : HitPart) → IsKnown
+          (record { nodes = old.nodes ++ record { excluded = inner; recursive = recursive; all = all_members; namespace = e } ∷ []; found = old.found; waits = old.waits; looks = old.looks }) y → IsKnown old y
       known_same (Finds h) k = k
       known_same (Awaits q) k = k
       known_same (LooksAt f) k = k
@@ -223,16 +233,21 @@ module _ (lib : Library) (x : List ℕ) (base : ℕ) (files : List StoredFile) (
   }
 
   -- an asking of its own is added
-  pub defers_gains : {A : Type 0} (n : ℕ) (g : Trail LinkKey LinkFact A Hit) (a : HitAsked) (old : HuntTrail) → IsAsked g a → Defers lib x base files w inner n a old (plus old g.found g.waits g.looks)
+  pub defers_gains : {A : Type 0} (n : ℕ) (g : Trail LinkKey LinkFact A Hit) (a : HitAsked) (old : HuntTrail) → IsAsked g a
+      → Defers lib x base files w inner n a old (plus old g.found g.waits g.looks)
   defers_gains n g a old h = defers_gained n a old (plus old g.found g.waits g.looks) refl (gained_asked g a old h)
 
   -- where the first stage of its own waits or found something, the second adds nothing
-  pub defers_first : {A : Type 0} (n : ℕ) (g : Trail LinkKey LinkFact A Hit) (c : Lookup (List Hit)) (f : List Hit → Lookup (List Hit)) (old : HuntTrail) → IsAsked g (c w) → (g.waits ≡ [] → g.found ≡ [] → ⊥) → ((h : Hit) (hs : List Hit) → f (h ∷ hs) w ≡ done (h ∷ hs) w)
+  pub defers_first : {A : Type 0} (n : ℕ) (g : Trail LinkKey LinkFact A Hit) (c : Lookup (List Hit)) (f : List Hit → Lookup (List Hit)) (old : HuntTrail)
+      → IsAsked g (c w) → (g.waits ≡ [] → g.found ≡ [] → ⊥) → ((h : Hit) (hs : List Hit) → f (h ∷ hs) w ≡ done (h ∷ hs) w)
       → Defers lib x base files w inner n ((c >>= f) w) old (plus old g.found g.waits g.looks)
-  defers_first n g c f old h some same = let e = first_same (c w).step (c w).looks g.waits g.found h.step some in defers_gains n g ((c >>= f) w) old (record { step = e.0; looks = subst (SameMembers g.looks) (sym e.1) h.looks })
+  defers_first n g c f old h some same = let e = first_same (c w).step (c w).looks g.waits g.found h.step some in defers_gains n g ((c >>= f) w) old
+      (record { step = e.0; looks = subst (SameMembers g.looks) (sym e.1) h.looks })
     where
-      first_same : (step : Step LinkKey (List Hit)) (looks : List (Fact LinkKey LinkFact)) (waits : List LinkKey) (found : List Hit) → IsStep found waits step → (waits ≡ [] → found ≡ [] → ⊥)
-          → IsStep found waits (then_step (record { step = step; looks = looks }) (λ hs. f hs w) step).step × ((then_step (record { step = step; looks = looks }) (λ hs. f hs w) step).looks ≡ looks)
+      first_same : (step : Step LinkKey (List Hit)) (looks : List (Fact LinkKey LinkFact)) (waits : List LinkKey) (found : List Hit)
+          → IsStep found waits step → (waits ≡ [] → found ≡ [] → ⊥)
+          → IsStep found waits (then_step (record { step = step; looks = looks }) (λ hs. f hs w) step).step × ((then_step
+              (record { step = step; looks = looks }) (λ hs. f hs w) step).looks ≡ looks)
       first_same (Done []) looks [] [] s some = absurd (some refl refl)
       first_same (Done []) looks [] (h ∷ hs) s some = absurd (s.left h (inl refl))
       first_same (Done (y ∷ ys)) looks [] found s some =
@@ -242,7 +257,8 @@ module _ (lib : Library) (x : List ℕ) (base : ℕ) (files : List StoredFile) (
       first_same (Waits ks) looks (v ∷ vs) found s some = (s, refl)
 
   -- where it waits on nothing and found nothing, the second stage has nothing to go by
-  pub defers_second : {A : Type 0} (n : ℕ) (g : Trail LinkKey LinkFact A Hit) (c : Lookup (List Hit)) (f : List Hit → Lookup (List Hit)) (old new : HuntTrail) → IsAsked g (c w) → g.waits ≡ [] → g.found ≡ []
+  pub defers_second : {A : Type 0} (n : ℕ) (g : Trail LinkKey LinkFact A Hit) (c : Lookup (List Hit)) (f : List Hit → Lookup (List Hit))
+      (old new : HuntTrail) → IsAsked g (c w) → g.waits ≡ [] → g.found ≡ []
       → Defers lib x base files w inner n (f [] w) (plus old g.found g.waits g.looks) new → Defers lib x base files w inner n ((c >>= f) w) old new
   defers_second n g c f old new h no_waits no_found d =
       let is = empty_step (c w).step g.waits g.found no_waits no_found h.step in
@@ -254,7 +270,8 @@ module _ (lib : Library) (x : List ℕ) (base : ℕ) (files : List StoredFile) (
         only = λ y k. elim (own.only y k) [ inl o ↦ inl o | inr b ↦ inr (admits_aside is y b) ];
       }) d
     where
-      empty_step : (step : Step LinkKey (List Hit)) (waits : List LinkKey) (found : List Hit) → waits ≡ [] → found ≡ [] → IsStep found waits step → step ≡ Done []
+      empty_step : (step : Step LinkKey (List Hit)) (waits : List LinkKey) (found : List Hit) → waits ≡ [] → found ≡ [] → IsStep found waits step
+          → step ≡ Done []
       empty_step (Done []) waits found a b s = refl
       empty_step (Done (y ∷ ys)) [] [] a b s = absurd (s.right y (inl refl))
       empty_step (Done (y ∷ ys)) [] (h ∷ hs) a b s = cc
@@ -262,7 +279,8 @@ module _ (lib : Library) (x : List ℕ) (base : ℕ) (files : List StoredFile) (
       empty_step (Waits ks) [] found a b s = absurd s
       empty_step (Waits ks) (v ∷ vs) found a b s = cc
 
-      aside_has : (c w).step ≡ ready [] → ((y : HitPart) → Shows (c w) y → IsKnown (plus old g.found g.waits g.looks) y) → (y : HitPart) → Aside (c w) y → IsKnown (plus old g.found g.waits g.looks) y
+      aside_has : (c w).step ≡ ready [] → ((y : HitPart) → Shows (c w) y → IsKnown (plus old g.found g.waits g.looks) y) → (y : HitPart) → Aside (c w) y
+          → IsKnown (plus old g.found g.waits g.looks) y
       aside_has is shown (Finds y) a = absurd a
       aside_has is shown (Awaits k) a = shown (Awaits k) a
       aside_has is shown (LooksAt f) a = shown (LooksAt f) a
@@ -273,45 +291,58 @@ module _ (lib : Library) (x : List ℕ) (base : ℕ) (files : List StoredFile) (
       admits_aside is (LooksAt f) b = b
 
   -- something is read, and then
-  pub defers_read : {C : Type 0} (n : ℕ) (c : Lookup C) (f : C → Lookup (List Hit)) (v : C) (tasks : List Task) (found : List Hit) (old mid : Noted) (new : HuntTrail) → Reads (c w) v old mid
+  pub defers_read : {C : Type 0} (n : ℕ) (c : Lookup C) (f : C → Lookup (List Hit)) (v : C) (tasks : List Task) (found : List Hit) (old mid : Noted)
+      (new : HuntTrail) → Reads (c w) v old mid
       → Defers lib x base files w inner n (f v w) (hunt_of tasks found mid) new → Defers lib x base files w inner n ((c >>= f) w) (hunt_of tasks found old) new
   defers_read n c f v tasks found old mid new h d =
       let waits : noted (waits_of (c w).step) (c w).looks old ≡ mid = ap (λ z. noted (waits_of z) (c w).looks old) h.step ∙ sym h.noted in
       defers_after lib x base files w inner n c f v (hunt_of tasks found old) (hunt_of tasks found mid) new h.step
       (subst (λ m. Looked (c w) (hunt_of tasks found old) (hunt_of tasks found m)) waits (looked_noted (c w) tasks found old)) d
 
-  looked_tells : {C : Type 0} (a : Asked LinkKey LinkFact (List C)) (o : Option C) (tasks : List Task) (found : List Hit) (old mid : Noted) → Tells a o old mid → Looked a (hunt_of tasks found old) (hunt_of tasks found mid)
-  looked_tells a o tasks found old mid h = subst (λ m. Looked a (hunt_of tasks found old) (hunt_of tasks found m)) (sym h.noted) (looked_noted a tasks found old)
+  looked_tells : {C : Type 0} (a : Asked LinkKey LinkFact (List C)) (o : Option C) (tasks : List Task) (found : List Hit) (old mid : Noted)
+      → Tells a o old mid → Looked a (hunt_of tasks found old) (hunt_of tasks found mid)
+  looked_tells a o tasks found old mid h = subst (λ m. Looked a (hunt_of tasks found old) (hunt_of tasks found m)) (sym h.noted)
+      (looked_noted a tasks found old)
 
   -- a reference leads nowhere, or is open
-  pub defers_nowhere : {C : Type 0} (n : ℕ) (c : Lookup (List C)) (f : C → Lookup (List Hit)) (tasks : List Task) (found : List Hit) (old mid : Noted) → Tells (c w) None old mid → Defers lib x base files w inner n ((c >>= joined f) w) (hunt_of tasks found old) (hunt_of tasks found mid)
+  pub defers_nowhere : {C : Type 0} (n : ℕ) (c : Lookup (List C)) (f : C → Lookup (List Hit)) (tasks : List Task) (found : List Hit) (old mid : Noted)
+      → Tells (c w) None old mid → Defers lib x base files w inner n ((c >>= joined f) w) (hunt_of tasks found old) (hunt_of tasks found mid)
   defers_nowhere {C = C} n c f tasks found old mid h = by_step (c w).step refl h.step
     where
-      by_step : (step : Step LinkKey (List C)) → (c w).step ≡ step → TellsStep step None → Defers lib x base files w inner n ((c >>= joined f) w) (hunt_of tasks found old) (hunt_of tasks found mid)
+      by_step : (step : Step LinkKey (List C)) → (c w).step ≡ step → TellsStep step None → Defers lib x base files w inner n ((c >>= joined f) w)
+          (hunt_of tasks found old) (hunt_of tasks found mid)
       by_step (Done xs) is s =
-          defers_after lib x base files w inner n c (joined f) [] (hunt_of tasks found old) (hunt_of tasks found mid) (hunt_of tasks found mid) (is ∙ ap Done s) (looked_tells (c w) None tasks found old mid h)
+          defers_after lib x base files w inner n c (joined f) [] (hunt_of tasks found old) (hunt_of tasks found mid) (hunt_of tasks found mid) (is
+              ∙ ap Done s) (looked_tells (c w) None tasks found old mid h)
           (defers_none lib x base files w inner n (hunt_of tasks found mid))
-      by_step (Waits ks) is s = defers_waits lib x base files w inner n c (joined f) ks (hunt_of tasks found old) (hunt_of tasks found mid) is (looked_tells (c w) None tasks found old mid h)
+      by_step (Waits ks) is s = defers_waits lib x base files w inner n c (joined f) ks (hunt_of tasks found old) (hunt_of tasks found mid) is (looked_tells
+          (c w) None tasks found old mid h)
 
   joined_one : {C : Type 0} (f : C → Lookup (List Hit)) (e : C) → joined f (e ∷ []) w ≡ f e w
   joined_one f e = λ i. record { step = join_last (f e w).step i; looks = append-nil (f e w).looks i }
 
   -- a reference leads to an element
-  pub defers_somewhere : {C : Type 0} (n : ℕ) (c : Lookup (List C)) (f : C → Lookup (List Hit)) (e : C) (tasks : List Task) (found : List Hit) (old mid : Noted) (new : HuntTrail) → Tells (c w) (Some e) old mid
-      → Defers lib x base files w inner n (f e w) (hunt_of tasks found mid) new → Defers lib x base files w inner n ((c >>= joined f) w) (hunt_of tasks found old) new
+  pub defers_somewhere : {C : Type 0} (n : ℕ) (c : Lookup (List C)) (f : C → Lookup (List Hit)) (e : C) (tasks : List Task) (found : List Hit)
+      (old mid : Noted) (new : HuntTrail) → Tells (c w) (Some e) old mid
+      → Defers lib x base files w inner n (f e w) (hunt_of tasks found mid) new → Defers lib x base files w inner n ((c >>= joined f) w)
+          (hunt_of tasks found old) new
   defers_somewhere {C = C} n c f e tasks found old mid new h d = by_step (c w).step refl h.step
     where
-      by_step : (step : Step LinkKey (List C)) → (c w).step ≡ step → TellsStep step (Some e) → Defers lib x base files w inner n ((c >>= joined f) w) (hunt_of tasks found old) new
+      by_step : (step : Step LinkKey (List C)) → (c w).step ≡ step → TellsStep step (Some e) → Defers lib x base files w inner n ((c >>= joined f) w)
+          (hunt_of tasks found old) new
       by_step (Done xs) is s =
-          defers_after lib x base files w inner n c (joined f) (e ∷ []) (hunt_of tasks found old) (hunt_of tasks found mid) new (is ∙ ap Done s) (looked_tells (c w) (Some e) tasks found old mid h)
+          defers_after lib x base files w inner n c (joined f) (e ∷ []) (hunt_of tasks found old) (hunt_of tasks found mid) new (is ∙ ap Done s)
+              (looked_tells (c w) (Some e) tasks found old mid h)
           (defers_equal lib x base files w inner n (f e w) (joined f (e ∷ []) w) (hunt_of tasks found mid) new (sym (joined_one f e)) d)
       by_step (Waits ks) is s = absurd (let none : ⊥ = cc in none)
 
   -- by a test
-  pub defers_true : (n : ℕ) (b : Bool) (c d : Lookup (List Hit)) (old new : HuntTrail) → b ≡ true → Defers lib x base files w inner n (c w) old new → Defers lib x base files w inner n (cond b c d w) old new
+  pub defers_true : (n : ℕ) (b : Bool) (c d : Lookup (List Hit)) (old new : HuntTrail) → b ≡ true → Defers lib x base files w inner n (c w) old new
+      → Defers lib x base files w inner n (cond b c d w) old new
   defers_true n b c d old new e h = subst (λ z. Defers lib x base files w inner n (cond z c d w) old new) (sym e) h
 
-  pub defers_false : (n : ℕ) (b : Bool) (c d : Lookup (List Hit)) (old new : HuntTrail) → b ≡ false → Defers lib x base files w inner n (d w) old new → Defers lib x base files w inner n (cond b c d w) old new
+  pub defers_false : (n : ℕ) (b : Bool) (c d : Lookup (List Hit)) (old new : HuntTrail) → b ≡ false → Defers lib x base files w inner n (d w) old new
+      → Defers lib x base files w inner n (cond b c d w) old new
   defers_false n b c d old new e h = subst (λ z. Defers lib x base files w inner n (cond z c d w) old new) (sym e) h
 
 -- the conditions of a decision
@@ -326,8 +357,10 @@ decided_none [] (f ∷ fs) e = cc
 decided_none (v ∷ ws) fs e = cc
 
 -- a task, a step down
-pub task_is : (lib : Library) (x : List ℕ) (base : ℕ) (t : Task) → length t.excluded < base → asks_task lib x base t ≡ cond (is_in t.namespace t.excluded) (done [])
-    (join (tiers_then lib x base (t.namespace ∷ t.excluded) t.all t.namespace) (cond t.recursive (inside (again_from lib x base (t.namespace ∷ t.excluded)) t.all t.namespace) (done [])))
+pub task_is : (lib : Library) (x : List ℕ) (base : ℕ) (t : Task) → length t.excluded < base → asks_task lib x base t ≡ cond (is_in t.namespace t.excluded)
+    (done [])
+    (join (tiers_then lib x base (t.namespace ∷ t.excluded) t.all t.namespace) (cond t.recursive (inside (again_from lib x base
+        (t.namespace ∷ t.excluded)) t.all t.namespace) (done [])))
 unfolding visible_from
 task_is lib x base t lt = ap (λ k. visible_from lib k x t.excluded t.recursive t.all t.namespace) (one_less base (length t.excluded) lt)
   where
@@ -335,8 +368,10 @@ task_is lib x base t lt = ap (λ k. visible_from lib k x t.excluded t.recursive 
     one_less b l lt = omega arith
 
 -- THE LOOP
-pub hunt_next : (lib : Library) (x : List ℕ) (base : ℕ) (files : List StoredFile) (w : LinkWorld) (inner : List ElementNo) (n : ℕ) (a : HitAsked) (t : Task) (rest : List Task) (old new : HuntTrail) → old.nodes ≡ rest ++ t ∷ [] → IsHunt lib x base w a old
-    → Defers lib x base files w inner n (asks_task lib x base t w) (record { nodes = rest; found = old.found; waits = old.waits; looks = old.looks }) new → IsHunt lib x base w a new
+pub hunt_next : (lib : Library) (x : List ℕ) (base : ℕ) (files : List StoredFile) (w : LinkWorld) (inner : List ElementNo) (n : ℕ) (a : HitAsked) (t : Task)
+    (rest : List Task) (old new : HuntTrail) → old.nodes ≡ rest ++ t ∷ [] → IsHunt lib x base w a old
+    → Defers lib x base files w inner n (asks_task lib x base t w) (record { nodes = rest; found = old.found; waits = old.waits; looks = old.looks }) new
+        → IsHunt lib x base w a new
 hunt_next lib x base files w inner n a t rest old new is h d =
     let mine : IsMember old.nodes t = subst (λ z. IsMember z t) (sym is) (member_right rest (t ∷ []) t (inl refl)) in
     let theirs : (u : Task) → IsMember rest u → IsMember old.nodes u = λ u m. subst (λ z. IsMember z u) (sym is) (member_left rest (t ∷ []) u m) in
@@ -372,13 +407,15 @@ hunt_next lib x base files w inner n a t rest old new is h d =
     known_same (LooksAt f) k = k
 
 -- where no task is left, all is known
-pub hunt_ends : (lib : Library) (x : List ℕ) (base : ℕ) (w : LinkWorld) (a : HitAsked) (hunt : HuntTrail) → hunt.nodes ≡ [] → IsSound w.table a.step a.looks → IsHunt lib x base w a hunt → IsAsked hunt a
+pub hunt_ends : (lib : Library) (x : List ℕ) (base : ℕ) (w : LinkWorld) (a : HitAsked) (hunt : HuntTrail) → hunt.nodes ≡ [] → IsSound w.table a.step a.looks
+    → IsHunt lib x base w a hunt → IsAsked hunt a
 hunt_ends lib x base w a hunt none sound h = is_asked w.table hunt a sound
     (λ y s. elim (h.shown y s) [ inl k ↦ k | inr t ↦ absurd (subst (λ z. IsMember z t.0) none t.1) ])
     (λ y k. h.only y k)
 
 -- what a first asking leaves
-pub hunt_begins : (lib : Library) (x : List ℕ) (base : ℕ) (files : List StoredFile) (w : LinkWorld) (inner : List ElementNo) (n : ℕ) (a : HitAsked) (new : HuntTrail) → Defers lib x base files w inner n a (record { nodes = []; found = []; waits = []; looks = [] }) new → IsHunt lib x base w a new
+pub hunt_begins : (lib : Library) (x : List ℕ) (base : ℕ) (files : List StoredFile) (w : LinkWorld) (inner : List ElementNo) (n : ℕ) (a : HitAsked)
+    (new : HuntTrail) → Defers lib x base files w inner n a (record { nodes = []; found = []; waits = []; looks = [] }) new → IsHunt lib x base w a new
 hunt_begins lib x base files w inner n a new d = record {
   shown = λ y s. elim (d.shown y s) [ inl k ↦ inl k | inr t ↦ inr (t.0, subst (λ z. IsMember z t.0) (sym d.grown) t.1, t.2) ];
   only = λ y k. elim (d.only y k) [ inl o ↦ absurd (nothing y o) | inr b ↦ b ];
@@ -402,7 +439,8 @@ power_grows b n m k pos h lt =
     let up : b ^ suc m ≤ b ^ k = pow-le-pow_right pos lt in
     omega arith
 
-weight_alike : (all inner : List ElementNo) (ts : List Task) → ((t : Task) → IsMember ts t → t.excluded ≡ inner) → weight all ts ≡ length ts * (2 ^ 66) ^ off_count same_element inner all
+weight_alike : (all inner : List ElementNo) (ts : List Task) → ((t : Task) → IsMember ts t → t.excluded ≡ inner) → weight all ts ≡ length ts *
+    (2 ^ 66) ^ off_count same_element inner all
 weight_alike all inner [] h = omega arith
 weight_alike all inner (t ∷ ts) h =
     let more = weight_alike all inner ts (λ u m. h u (inr m)) in
@@ -413,8 +451,10 @@ weight_alike all inner (t ∷ ts) h =
     sum_is a b c l e f = let more : suc l * b ≡ l * b + b = suc-mul l b in omega arith
 
 -- each task gives tasks of less weight
-pub hunt_less : (lib : Library) (x : List ℕ) (base : ℕ) (files : List StoredFile) (w : LinkWorld) (all : List ElementNo) (n : ℕ) (a : HitAsked) (t : Task) (rest : List Task) (old mid new : HuntTrail) → old.nodes ≡ rest ++ t ∷ [] → mid.nodes ≡ rest → IsMember all t.namespace → n < 2 ^ 66
-    → (is_in t.namespace t.excluded ≡ true → new ≡ mid) → Defers lib x base files w (t.namespace ∷ t.excluded) n a mid new → weight all new.nodes < weight all old.nodes
+pub hunt_less : (lib : Library) (x : List ℕ) (base : ℕ) (files : List StoredFile) (w : LinkWorld) (all : List ElementNo) (n : ℕ) (a : HitAsked) (t : Task)
+    (rest : List Task) (old mid new : HuntTrail) → old.nodes ≡ rest ++ t ∷ [] → mid.nodes ≡ rest → IsMember all t.namespace → n < 2 ^ 66
+    → (is_in t.namespace t.excluded ≡ true → new ≡ mid) → Defers lib x base files w (t.namespace ∷ t.excluded) n a mid new
+        → weight all new.nodes < weight all old.nodes
 hunt_less lib x base files w all n a t rest old mid new is rests member narrow same d =
     let whole : weight all old.nodes ≡ weight all rest + weight all (t ∷ []) = ap (weight all) is ∙ weight_append all rest (t ∷ []) in
     let some : 1 ≤ (2 ^ 66) ^ off_count same_element t.excluded all = one-le-pow (off_count same_element t.excluded all) (2 ^ 66) (omega arith) in
@@ -424,11 +464,14 @@ hunt_less lib x base files w all n a t rest old mid new is rests member narrow s
           less_all (weight all new.nodes) (weight all old.nodes) (weight all rest) ((2 ^ 66) ^ off_count same_element t.excluded all) none whole some
       | inr off ↦
           let fewer = off_less same_element element_is_exact t.excluded t.namespace all member off in
-          let added : weight all new.nodes ≡ weight all rest + weight all d.added = ap (weight all) (d.grown ∙ ap (λ z. z ++ d.added) rests) ∙ weight_append all rest d.added in
+          let added : weight all new.nodes ≡ weight all rest + weight all d.added = ap (weight all) (d.grown ∙ ap (λ z. z ++ d.added) rests)
+              ∙ weight_append all rest d.added in
           let alike = weight_alike all (t.namespace ∷ t.excluded) d.added (λ u m. (d.inside u m).0) in
           let few : length d.added < 2 ^ 66 = (let count = d.count in omega arith) in
-          let power = power_grows (2 ^ 66) (length d.added) (off_count same_element (t.namespace ∷ t.excluded) all) (off_count same_element t.excluded all) (omega arith) few fewer in
-          less_some (weight all new.nodes) (weight all old.nodes) (weight all rest) (weight all d.added) (length d.added * (2 ^ 66) ^ off_count same_element (t.namespace ∷ t.excluded) all) ((2 ^ 66) ^ off_count same_element t.excluded all) added whole alike power
+          let power = power_grows (2 ^ 66) (length d.added) (off_count same_element (t.namespace ∷ t.excluded) all) (off_count same_element t.excluded all)
+              (omega arith) few fewer in
+          less_some (weight all new.nodes) (weight all old.nodes) (weight all rest) (weight all d.added) (length d.added * (2 ^ 66) ^ off_count same_element
+              (t.namespace ∷ t.excluded) all) ((2 ^ 66) ^ off_count same_element t.excluded all) added whole alike power
     ]
   where
     less_all : (new old rest one : ℕ) → new ≡ rest → old ≡ rest + (one + 0) → 1 ≤ one → new < old
@@ -438,9 +481,11 @@ hunt_less lib x base files w all n a t rest old mid new is rests member narrow s
     less_some new old rest added many one e f g h = omega arith
 
 -- the tasks after one more
-pub tasks_in : (lib : Library) (x : List ℕ) (base : ℕ) (files : List StoredFile) (w : LinkWorld) (inner : List ElementNo) (n : ℕ) (a : HitAsked) (t : Task) (rest : List Task) (old mid new : HuntTrail) → old.nodes ≡ rest ++ t ∷ [] → mid.nodes ≡ rest → AllTasksStand files old.nodes
+pub tasks_in : (lib : Library) (x : List ℕ) (base : ℕ) (files : List StoredFile) (w : LinkWorld) (inner : List ElementNo) (n : ℕ) (a : HitAsked) (t : Task)
+    (rest : List Task) (old mid new : HuntTrail) → old.nodes ≡ rest ++ t ∷ [] → mid.nodes ≡ rest → AllTasksStand files old.nodes
     → Defers lib x base files w inner n a mid new → AllTasksStand files new.nodes
-tasks_in lib x base files w inner n a t rest old mid new is rests fits d u m = elim (member_cases rest d.added u (subst (λ z. IsMember z u) (d.grown ∙ ap (λ z. z ++ d.added) rests) m)) [
+tasks_in lib x base files w inner n a t rest old mid new is rests fits d u m = elim (member_cases rest d.added u (subst (λ z. IsMember z u) (d.grown ∙ ap
+    (λ z. z ++ d.added) rests) m)) [
   | inl left ↦ fits u (subst (λ z. IsMember z u) (sym is) (member_left rest (t ∷ []) u left))
   | inr right ↦ (d.inside u right).1
 ]
@@ -449,25 +494,35 @@ pub task_in : (files : List StoredFile) (t : Task) (rest ts : List Task) → ts 
 task_in files t rest ts is fits = fits t (subst (λ z. IsMember z t) (sym is) (member_right rest (t ∷ []) t (inl refl)))
 
 -- a task that is excluded gives nothing
-pub defers_excluded : (lib : Library) (x : List ℕ) (base : ℕ) (files : List StoredFile) (w : LinkWorld) (n : ℕ) (t : Task) (h : HuntTrail) → length t.excluded < base → is_in t.namespace t.excluded ≡ true → Defers lib x base files w (t.namespace ∷ t.excluded) n (asks_task lib x base t w) h h
+pub defers_excluded : (lib : Library) (x : List ℕ) (base : ℕ) (files : List StoredFile) (w : LinkWorld) (n : ℕ) (t : Task) (h : HuntTrail)
+    → length t.excluded < base → is_in t.namespace t.excluded ≡ true → Defers lib x base files w (t.namespace ∷ t.excluded) n (asks_task lib x base t w) h h
 defers_excluded lib x base files w n t h lt there =
-    defers_equal lib x base files w (t.namespace ∷ t.excluded) n (cond (is_in t.namespace t.excluded) (done []) (join (tiers_then lib x base (t.namespace ∷ t.excluded) t.all t.namespace) (cond t.recursive (inside (again_from lib x base (t.namespace ∷ t.excluded)) t.all t.namespace) (done []))) w) (asks_task lib x base t w) h h
+    defers_equal lib x base files w (t.namespace ∷ t.excluded) n (cond (is_in t.namespace t.excluded) (done []) (join (tiers_then lib x base
+        (t.namespace ∷ t.excluded) t.all t.namespace) (cond t.recursive (inside (again_from lib x base (t.namespace ∷ t.excluded)) t.all t.namespace)
+        (done []))) w) (asks_task lib x base t w) h h
     (ap (λ (c : Lookup (List Hit)). c w) (sym (task_is lib x base t lt)))
-    (defers_true lib x base files w (t.namespace ∷ t.excluded) n (is_in t.namespace t.excluded) (done []) (join (tiers_then lib x base (t.namespace ∷ t.excluded) t.all t.namespace) (cond t.recursive (inside (again_from lib x base (t.namespace ∷ t.excluded)) t.all t.namespace) (done []))) h h there
+    (defers_true lib x base files w (t.namespace ∷ t.excluded) n (is_in t.namespace t.excluded) (done []) (join (tiers_then lib x base
+        (t.namespace ∷ t.excluded) t.all t.namespace) (cond t.recursive (inside (again_from lib x base (t.namespace ∷ t.excluded)) t.all t.namespace)
+        (done []))) h h there
     (defers_none lib x base files w (t.namespace ∷ t.excluded) n h))
 
 -- a task gives its tiers and what is inside
-pub defers_expanded : (lib : Library) (x : List ℕ) (base : ℕ) (files : List StoredFile) (w : LinkWorld) (t : Task) (old mid new : HuntTrail) → length t.excluded < base → is_in t.namespace t.excluded ≡ false
-    → Defers lib x base files w (t.namespace ∷ t.excluded) (length (imports_at files t.namespace)) (tiers_then lib x base (t.namespace ∷ t.excluded) t.all t.namespace w) old mid
-    → Defers lib x base files w (t.namespace ∷ t.excluded) (length (members_at files t.namespace)) (cond t.recursive (inside (again_from lib x base (t.namespace ∷ t.excluded)) t.all t.namespace) (done []) w) mid new
+pub defers_expanded : (lib : Library) (x : List ℕ) (base : ℕ) (files : List StoredFile) (w : LinkWorld) (t : Task) (old mid new : HuntTrail)
+    → length t.excluded < base → is_in t.namespace t.excluded ≡ false
+    → Defers lib x base files w (t.namespace ∷ t.excluded) (length (imports_at files t.namespace)) (tiers_then lib x base
+        (t.namespace ∷ t.excluded) t.all t.namespace w) old mid
+    → Defers lib x base files w (t.namespace ∷ t.excluded) (length (members_at files t.namespace)) (cond t.recursive (inside (again_from lib x base
+        (t.namespace ∷ t.excluded)) t.all t.namespace) (done []) w) mid new
     → Defers lib x base files w (t.namespace ∷ t.excluded) (width files t) (asks_task lib x base t w) old new
 defers_expanded lib x base files w t old mid new lt off g h =
     let tiers = tiers_then lib x base (t.namespace ∷ t.excluded) t.all t.namespace in
     let more = cond t.recursive (inside (again_from lib x base (t.namespace ∷ t.excluded)) t.all t.namespace) (done []) in
-    defers_equal lib x base files w (t.namespace ∷ t.excluded) (width files t) (cond (is_in t.namespace t.excluded) (done []) (join tiers more) w) (asks_task lib x base t w) old new
+    defers_equal lib x base files w (t.namespace ∷ t.excluded) (width files t) (cond (is_in t.namespace t.excluded) (done []) (join tiers more) w)
+        (asks_task lib x base t w) old new
     (ap (λ (c : Lookup (List Hit)). c w) (sym (task_is lib x base t lt)))
     (defers_false lib x base files w (t.namespace ∷ t.excluded) (width files t) (is_in t.namespace t.excluded) (done []) (join tiers more) old new off
-    (defers_join lib x base files w (t.namespace ∷ t.excluded) (length (imports_at files t.namespace)) (length (members_at files t.namespace)) tiers more old mid new g h))
+    (defers_join lib x base files w (t.namespace ∷ t.excluded) (length (imports_at files t.namespace)) (length
+        (members_at files t.namespace)) tiers more old mid new g h))
 
 -- THE CALLS
 steps_are : (l : ℕ) → (most + l) - l ≡ most
@@ -476,33 +531,46 @@ steps_are l = omega arith
 abbrev pub IsEmpty : HuntTrail → Type 0
 IsEmpty h = h ≡ record { nodes = []; found = []; waits = []; looks = [] }
 
-module _ (lib : Library) (x : List ℕ) (files : List StoredFile) (w : LinkWorld) (excluded : List ElementNo) (start new : HuntTrail) (empty : IsEmpty start) where
+module _ (lib : Library) (x : List ℕ) (files : List StoredFile) (w : LinkWorld) (excluded : List ElementNo) (start new : HuntTrail)
+    (empty : IsEmpty start) where
   -- one task is a whole lookup
-  single : (recursive every : Bool) (n : ElementNo) → StandsIn files n → new ≡ record { nodes = start.nodes ++ record { excluded = excluded; recursive = recursive; all = every; namespace = n } ∷ []; found = start.found; waits = start.waits; looks = start.looks }
-      → Defers lib x (most + length excluded) files w excluded 1 (asks_task lib x (most + length excluded) (record { excluded = excluded; recursive = recursive; all = every; namespace = n }) w) start new
+  single : (recursive every : Bool) (n : ElementNo) → StandsIn files n
+      → new ≡ record { nodes = start.nodes ++ record { excluded = excluded; recursive = recursive; all = every; namespace = n } ∷ []; found = start.found; waits = start.waits; looks = start.looks }
+      → Defers lib x (most + length excluded) files w excluded 1 (asks_task lib x (most + length excluded)
+          (record { excluded = excluded; recursive = recursive; all = every; namespace = n }) w) start new
   single recursive every n m is =
-      subst (λ z. Defers lib x (most + length excluded) files w excluded 1 (asks_task lib x (most + length excluded) (record { excluded = excluded; recursive = recursive; all = every; namespace = n }) w) start z) (sym is)
+      subst (λ z. Defers lib x (most + length excluded) files w excluded 1 (asks_task lib x (most + length excluded)
+          (record { excluded = excluded; recursive = recursive; all = every; namespace = n }) w) start z) (sym is)
       (defers_task lib x (most + length excluded) files w excluded recursive every n start m)
 
-  pub hunt_visible : (recursive every : Bool) (n : ElementNo) → StandsIn files n → new ≡ record { nodes = start.nodes ++ record { excluded = excluded; recursive = recursive; all = every; namespace = n } ∷ []; found = start.found; waits = start.waits; looks = start.looks }
+  pub hunt_visible : (recursive every : Bool) (n : ElementNo) → StandsIn files n
+      → new ≡ record { nodes = start.nodes ++ record { excluded = excluded; recursive = recursive; all = every; namespace = n } ∷ []; found = start.found; waits = start.waits; looks = start.looks }
       → IsHunt lib x (most + length excluded) w (visible lib x excluded recursive every n w) new
   hunt_visible recursive every n m is =
       subst (λ k. IsHunt lib x (most + length excluded) w (visible_from lib k x excluded recursive every n w) new) (steps_are (length excluded))
-      (hunt_begins lib x (most + length excluded) files w excluded 1 (asks_task lib x (most + length excluded) (record { excluded = excluded; recursive = recursive; all = every; namespace = n }) w) new
-      (subst (λ z. Defers lib x (most + length excluded) files w excluded 1 (asks_task lib x (most + length excluded) (record { excluded = excluded; recursive = recursive; all = every; namespace = n }) w) z new) empty (single recursive every n m is)))
+      (hunt_begins lib x (most + length excluded) files w excluded 1 (asks_task lib x (most + length excluded)
+          (record { excluded = excluded; recursive = recursive; all = every; namespace = n }) w) new
+      (subst (λ z. Defers lib x (most + length excluded) files w excluded 1 (asks_task lib x (most + length excluded)
+          (record { excluded = excluded; recursive = recursive; all = every; namespace = n }) w) z new) empty (single recursive every n m is)))
 
   tasks_begin : (base n : ℕ) (a : HitAsked) → Defers lib x base files w excluded n a start new → AllTasksStand files new.nodes
   tasks_begin base n a d t m = (d.inside t (subst (λ z. IsMember z t) (d.grown ∙ ap (λ (h : HuntTrail). h.nodes ++ d.added) empty) m)).1
 
-  pub tasks_visible : (recursive every : Bool) (n : ElementNo) → StandsIn files n → new ≡ record { nodes = start.nodes ++ record { excluded = excluded; recursive = recursive; all = every; namespace = n } ∷ []; found = start.found; waits = start.waits; looks = start.looks }
+  pub tasks_visible : (recursive every : Bool) (n : ElementNo) → StandsIn files n
+      → new ≡ record { nodes = start.nodes ++ record { excluded = excluded; recursive = recursive; all = every; namespace = n } ∷ []; found = start.found; waits = start.waits; looks = start.looks }
       → AllTasksStand files new.nodes
-  tasks_visible recursive every n m is = tasks_begin (most + length excluded) 1 (asks_task lib x (most + length excluded) (record { excluded = excluded; recursive = recursive; all = every; namespace = n }) w) (single recursive every n m is)
+  tasks_visible recursive every n m is = tasks_begin (most + length excluded) 1 (asks_task lib x (most + length excluded)
+      (record { excluded = excluded; recursive = recursive; all = every; namespace = n }) w) (single recursive every n m is)
 
-  pub tasks_imported : (brings : (Bool → Bool → ElementNo → Lookup (List Hit)) → Lookup (List Hit)) → ((base : ℕ) → Defers lib x base files w excluded 1 (brings (again_from lib x base excluded) w) start new) → AllTasksStand files new.nodes
+  pub tasks_imported : (brings : (Bool → Bool → ElementNo → Lookup (List Hit)) → Lookup (List Hit)) → ((base : ℕ) → Defers lib x base files w excluded 1
+      (brings (again_from lib x base excluded) w) start new) → AllTasksStand files new.nodes
   tasks_imported brings d = tasks_begin most 1 (brings (again_from lib x most excluded) w) (d most)
 
-  pub hunt_imported : (brings : (Bool → Bool → ElementNo → Lookup (List Hit)) → Lookup (List Hit)) → ((base : ℕ) → Defers lib x base files w excluded 1 (brings (again_from lib x base excluded) w) start new) → IsHunt lib x (most + length excluded) w (brings (visible lib x excluded) w) new
+  pub hunt_imported : (brings : (Bool → Bool → ElementNo → Lookup (List Hit)) → Lookup (List Hit)) → ((base : ℕ) → Defers lib x base files w excluded 1
+      (brings (again_from lib x base excluded) w) start new) → IsHunt lib x (most + length excluded) w (brings (visible lib x excluded) w) new
   hunt_imported brings d =
-      subst (λ k. IsHunt lib x (most + length excluded) w (brings (λ recursive every e. visible_from lib k x excluded recursive every e) w) new) (steps_are (length excluded))
+      subst (λ k. IsHunt lib x (most + length excluded) w (brings (λ recursive every e. visible_from lib k x excluded recursive every e) w) new) (steps_are
+          (length excluded))
       (hunt_begins lib x (most + length excluded) files w excluded 1 (brings (again_from lib x (most + length excluded) excluded) w) new
-      (subst (λ z. Defers lib x (most + length excluded) files w excluded 1 (brings (again_from lib x (most + length excluded) excluded) w) z new) empty (d (most + length excluded))))
+      (subst (λ z. Defers lib x (most + length excluded) files w excluded 1 (brings (again_from lib x (most + length excluded) excluded) w) z new) empty (d
+          (most + length excluded))))

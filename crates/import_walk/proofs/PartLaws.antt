@@ -26,7 +26,8 @@ use Rattle.link_model.specs.Outside.{model_in}
 use Rattle.import_walk.specs.Deferred.{TargetStandsIn, imports_at, members_at}
 
 -- the last segment that an import is written with is that of its reference
-pub last_there : (d : Data) (i : Import) (r : Reference) (last : List ℕ) → slice_get d.references i.reference ≡ Some r → last ≡ last_of [] r.path → last ≡ last_written d i
+pub last_there : (d : Data) (i : Import) (r : Reference) (last : List ℕ) → slice_get d.references i.reference ≡ Some r → last ≡ last_of [] r.path
+    → last ≡ last_written d i
 last_there d i r last at is = is ∙ sym written
   where
     written : last_written d i ≡ last_of [] r.path
@@ -48,11 +49,14 @@ target_in files f d (Owned e) there lt = (d, there, lt)
 target_in files f d (Alias r) there lt = tt
 
 -- one item more of a list that is gone through
-pub rest_next : {A B : Type 0} (g : A → List B) (i : ℕ) (xs : List A) (x e : A) (before now whole : List B) → i < length xs → x ≡ get_or xs i e → now ≡ before ++ g x
+pub rest_next : {A B : Type 0} (g : A → List B) (i : ℕ) (xs : List A) (x e : A) (before now whole : List B) → i < length xs → x ≡ get_or xs i e
+    → now ≡ before ++ g x
     → before ++ flat_map g (drop i xs) ≡ whole → now ++ flat_map g (drop (i + 1) xs) ≡ whole
 rest_next g i xs x e before now whole lt is more h =
-    let next : drop i xs ≡ x ∷ drop (i + 1) xs = drop-cons xs i e lt ∙ (ap (λ j. get_or xs i e ∷ drop j xs) (sym (add-one i)) ∙ ap (λ y. y ∷ drop (i + 1) xs) (sym is)) in
-    ap (λ s. s ++ flat_map g (drop (i + 1) xs)) more ∙ (append_assoc before (g x) (flat_map g (drop (i + 1) xs)) ∙ (ap (λ ys. before ++ flat_map g ys) (sym next) ∙ h))
+    let next : drop i xs ≡ x ∷ drop (i + 1) xs = drop-cons xs i e lt ∙ (ap (λ j. get_or xs i e ∷ drop j xs) (sym (add-one i)) ∙ ap (λ y. y ∷ drop
+        (i + 1) xs) (sym is)) in
+    ap (λ s. s ++ flat_map g (drop (i + 1) xs)) more ∙ (append_assoc before (g x) (flat_map g (drop (i + 1) xs)) ∙ (ap (λ ys. before ++ flat_map g ys)
+        (sym next) ∙ h))
 
 abbrev pub ready : {A : Type 0} → A → Step LinkKey A
 ready x = Done x
@@ -84,7 +88,8 @@ bound d m i =
     let longer = numbers_long 0 (λ (k : Member). nat_eq k.owner i) d.members in
     omega arith
 
-pub narrow : (files : List StoredFile) → AreFiles files → (n : ElementNo) → StandsIn files n → length (imports_at files n) + length (members_at files n) < 2 ^ 66
+pub narrow : (files : List StoredFile) → AreFiles files → (n : ElementNo) → StandsIn files n → length (imports_at files n) + length
+    (members_at files n) < 2 ^ 66
 narrow files are n h = by (slice_get files n.file.0) refl h.1
   where
     by : (o : Option StoredFile) → slice_get files n.file.0 ≡ o → option_and_then (λ x. x.model) o ≡ Some h.0
@@ -93,4 +98,5 @@ narrow files are n h = by (slice_get files n.file.0) refl h.1
     by (Some s) at there =
         let is : s.model ≡ Some h.0 = there in
         let same : model_in (Some s) ≡ h.0 = rw is refl in
-        subst (λ (z : Data). length (imports_of z n.index) + length (members_of z n.index) < 2 ^ 66) (sym same) (bound h.0 (are.models n.file.0 s h.0 at is).1 n.index)
+        subst (λ (z : Data). length (imports_of z n.index) + length (members_of z n.index) < 2 ^ 66) (sym same) (bound h.0
+            (are.models n.file.0 s h.0 at is).1 n.index)

@@ -1,8 +1,8 @@
 -- Visible members as a list of tasks: what is found so far, and what is still to be looked up.
-use Rattle.std.specs.Prelude.{◌≡◌, ℕ, ◌+◌, ◌-◌, ◌^◌, ◌≤◌, Bool, true, cond, ◌||◌, List, [], ◌∷◌, ◌++◌, length, slice_get, ◌⊎◌}
+use Rattle.std.specs.Prelude.{◌≡◌, ℕ, ◌+◌, ◌-◌, ◌^◌, ◌≤◌, Bool, true, cond, ◌||◌, List, [], ◌∷◌, ◌++◌, length, slice_get, Some, ◌⊎◌}
 use Rattle.linker_base.specs.Members.{IsMember}
-use Rattle.demand_core.specs.Computation.{Asked, done, ◌>>=◌, join}
-use Rattle.demand_core.specs.Search.{Part, Shows, Admits, Trail, IsKnown, off_count}
+use Rattle.demand_core.specs.Computation.{Asked, IsSound, done, ◌>>=◌, join}
+use Rattle.demand_core.specs.Search.{Part, Shows, Admits, Trail, IsKnown, IsAsked, off_count}
 use Rattle.element_store.specs.declared.numbers.FileNo.{FileNo}
 use Rattle.element_store.specs.declared.numbers.ElementNo.{ElementNo}
 use Rattle.element_store.specs.declared.numbers.ImportNo.{ImportNo}
@@ -12,15 +12,18 @@ use Rattle.element_store.specs.declared.records.Target.TheVariants.{Owned, Alias
 use Rattle.element_store.specs.declared.models.StoredFile.{StoredFile}
 use Rattle.element_store.specs.Model.{Data}
 use Rattle.element_store.specs.Condition.{members_of, imports_of}
-use Rattle.element_store.specs.BaseRules.{StandsIn}
+use Rattle.element_store.specs.BaseRules.{StandsIn, model_of}
 use Rattle.link_model.specs.declared.keys.LinkKey.{LinkKey}
 use Rattle.link_model.specs.declared.keys.LinkFact.{LinkFact}
 use Rattle.link_model.specs.declared.keys.LinkFact.TheVariants.{File}
 use Rattle.link_model.specs.declared.keys.Hit.{Hit}
+use Rattle.link_model.specs.declared.view.View.{View}
 use Rattle.link_model.specs.Keys.{same_element}
-use Rattle.link_model.specs.Outside.{Library, model_in, is_public}
+use Rattle.link_model.specs.Outside.{Library, model_in, is_public, library_of}
 use Rattle.link_model.specs.Readers.{Lookup, LinkWorld, is_nil, told, first_of, model}
 use Rattle.link_model.specs.Imports.{own_tiers, brought, import_tier, in_owned, last_written, under_name, visible_from}
+use Rattle.link_walk.specs.Calls.{read_by}
+use Rattle.link_walk.specs.Noted.{LinkTrail}
 use Rattle.import_walk.specs.declared.hunt.Task.{Task}
 
 -- what is known, and the tasks that are left
@@ -60,6 +63,10 @@ module _ (lib : Library) (x : List ℕ) (base : ℕ) where
   abbrev pub shown_import : List ElementNo → Bool → FileNo → Data → ℕ → Lookup (List Hit)
   shown_import inner all f d k = told (slice_get d.imports k)
       (λ i. cond (all || is_public i.visibility) (brought (again_from inner) x f i) (done []))
+
+  -- what the imports of a namespace bring
+  abbrev pub shown_imports : List ElementNo → Bool → ElementNo → Lookup (List Hit)
+  shown_imports inner all n = import_tier (again_from inner) (λ i. all || is_public i.visibility) x n
 
   -- the tiers of a namespace
   abbrev pub tiers_then : List ElementNo → Bool → ElementNo → Lookup (List Hit)
@@ -110,12 +117,49 @@ pub record Defers
   pub inside : (t : Task) → IsMember added t → (t.excluded ≡ inner) × StandsIn files t.namespace
   pub count : length added ≤ most_added
 
+-- the file has that model
+abbrev pub HasThere : FileNo → Data → List StoredFile → Type 0
+HasThere f d files = model_of files f.0 ≡ Some d
+
+-- that of what is asked through a view, whatever the base
+abbrev pub DefersIn : View → List ℕ → List ElementNo → ℕ → (ℕ → Lookup (List Hit)) → HuntTrail → HuntTrail → Type 0
+DefersIn v x inner n c old new = (base : ℕ)
+    → Defers (library_of v.models.now) x base v.models.now (read_by v) inner n (c base (read_by v)) old new
+
+-- that of what is visible in the elements of a namespace, under whatever name
+abbrev pub DefersInside : View → List ElementNo → ℕ → (Library → List ℕ → ℕ → Lookup (List Hit)) → HuntTrail
+    → HuntTrail → Type 0
+DefersInside v inner n c old new = (lib : Library) (x : List ℕ) (base : ℕ)
+    → Defers lib x base v.models.now (read_by v) inner n (c lib x base (read_by v)) old new
+
+-- and wherever it is asked, if this holds of the files
+abbrev pub DefersWhere : (List StoredFile → Type 0) → List ElementNo → ℕ
+    → (Library → List ℕ → ℕ → Lookup (List Hit)) → HuntTrail → HuntTrail → Type 0
+DefersWhere P inner n c old new = (lib : Library) (x : List ℕ) (base : ℕ) (files : List StoredFile) (w : LinkWorld)
+    → P files → Defers lib x base files w inner n (c lib x base w) old new
+
+-- what a task gives is added, and the tasks that come of it
+abbrev pub GivesTask : View → List ℕ → Task → HuntTrail → HuntTrail → Type 0
+GivesTask v x t old new = (base : ℕ) → 2 ^ 64 ≤ base
+    → Defers (library_of v.models.now) x base v.models.now (read_by v) (t.namespace ∷ t.excluded)
+    (width v.models.now t) (asks_task (library_of v.models.now) x base t (read_by v)) old new
+
+-- the library of what a view sees
+abbrev pub lib_of : View → Library
+lib_of v = library_of v.models.now
+
 -- The same of a whole lookup, with the tasks that are left.
-pub record IsHunt (lib : Library) (x : List ℕ) (base : ℕ) (w : LinkWorld) (a : HitAsked) (hunt : HuntTrail) : Type 0 where
+pub record IsHunt (lib : Library) (x : List ℕ) (base : ℕ) (w : LinkWorld) (a : HitAsked) (hunt : HuntTrail)
+    : Type 0 where
   pub shown : (y : HitPart) → Shows a y
       → IsKnown hunt y ⊎ ((t : Task) × IsMember hunt.nodes t × Shows (asks_task lib x base t w) y)
   pub only : (y : HitPart) → IsKnown hunt y → Admits a y
   pub pending : (t : Task) (y : HitPart) → IsMember hunt.nodes t → Admits (asks_task lib x base t w) y → Admits a y
+
+-- what is known ends with each lookup of which the hunt was one
+abbrev pub EndsHunt : View → List ℕ → HuntTrail → LinkTrail Hit → Type 0
+EndsHunt v x hunt gains = (base : ℕ) (a : HitAsked) → 2 ^ 64 ≤ base
+    → IsSound (read_by v).table a.step a.looks → IsHunt (lib_of v) x base (read_by v) a hunt → IsAsked gains a
 
 -- A number that decreases with each task: each gives less than this base of tasks, and each of these excludes one
 -- element more.

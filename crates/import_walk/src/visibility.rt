@@ -12,9 +12,10 @@ ghost use Rattle.link_model.specs.Outside.{library_of, is_public, Library};
 ghost use Rattle.link_model.specs.Readers.{LinkWorld, is_nil};
 ghost use Rattle.link_walk.specs.Calls.{read_by, HasLinks, ImportStands};
 ghost use Rattle.link_walk.specs.Calls.{ReferenceStands};
-ghost use Rattle.import_walk.specs.Deferred.{Defers, HitAsked, IsHunt, AllTasksStand};
-ghost use Rattle.import_walk.specs.Deferred.{again_from, asks_task, import_at, shown_import};
-ghost use Rattle.import_walk.specs.Deferred.{tiers_then, owned_part, imports_at, members_at, width};
+ghost use Rattle.import_walk.specs.Deferred.{AllTasksStand, DefersIn, DefersInside, DefersWhere};
+ghost use Rattle.import_walk.specs.Deferred.{EndsHunt, GivesTask, HasThere, lib_of};
+ghost use Rattle.import_walk.specs.Deferred.{again_from, import_at, shown_import, shown_imports};
+ghost use Rattle.import_walk.specs.Deferred.{tiers_then, owned_part, imports_at, members_at};
 ghost use Rattle.import_walk.specs.Deferred.{TargetStandsIn, brings};
 
 use crate::hunt::{Hunt, Task, append_elements};
@@ -65,9 +66,8 @@ fn defer_if(
     namespace: ElementNo,
     hunt: &mut Hunt,
 ) -> Result<(), NoMemory>
-    ensures { OnOk result ((lib : Library) (x : List ℕ) (base : ℕ) (files : List StoredFile)
-        (w : LinkWorld) → StandsIn files namespace → Defers lib x base files w inner.now 1
-        (cond asked (again_from lib x base inner.now true all namespace) (done []) w)
+    ensures { OnOk result (DefersWhere (λ files. StandsIn files namespace) inner.now 1
+        (λ lib x base. cond asked (again_from lib x base inner.now true all namespace) (done []))
         hunt.old hunt.new) }
 {
     if asked {
@@ -91,10 +91,9 @@ fn add_target<T: Tiers>(
     requires stands { StandsIn view.now.models.now element }
     requires links { HasLinks view.now }
     requires reference { import.now.reference < length model.now.references }
-    ensures { OnOk result ((base : ℕ) → Defers (library_of view.now.models.now) name.now base
-        view.now.models.now (read_by view.now) inner.now 1
-        (import_at (library_of view.now.models.now) name.now base inner.now model.now import.now
-        element (read_by view.now)) hunt.old hunt.new) }
+    ensures { OnOk result (DefersIn view.now name.now inner.now 1
+        (λ base. import_at (lib_of view.now) name.now base inner.now model.now import.now element)
+        hunt.old hunt.new) }
 {
     if import.star {
         hunt.defer(alloc, inner, import.recursive, import.all, element)?;
@@ -121,11 +120,9 @@ fn add_import<T: Tiers>(
     requires stands { ReferenceStands view.now.models.now
         (record { file = file; index = import.now.reference }) }
     requires links { HasLinks view.now }
-    ensures { OnOk result ((base : ℕ) → Defers (library_of view.now.models.now) name.now base
-        view.now.models.now (read_by view.now) inner.now 1
-        (imports.brought (again_from (library_of view.now.models.now) name.now base inner.now)
-        name.now file import.now (read_by view.now))
-        hunt.old hunt.new) }
+    ensures { OnOk result (DefersIn view.now name.now inner.now 1
+        (λ base. imports.brought (again_from (lib_of view.now) name.now base inner.now) name.now
+        file import.now) hunt.old hunt.new) }
 {
     let of = model(view, file, &mut hunt.notes)?;
     let reference = LinkKey(RefNo {
@@ -156,11 +153,9 @@ fn consider_import<T: Tiers>(
     requires there { model_of view.now.models.now number.file.0 ≡ Some model.now }
     requires stands { number.index < length model.now.imports }
     requires links { HasLinks view.now }
-    ensures { OnOk result ((base : ℕ) → Defers (library_of view.now.models.now) name.now base
-        view.now.models.now (read_by view.now) inner.now 1
-        (shown_import (library_of view.now.models.now) name.now base inner.now all number.file
-        model.now number.index (read_by view.now))
-        hunt.old hunt.new) }
+    ensures { OnOk result (DefersIn view.now name.now inner.now 1
+        (λ base. shown_import (lib_of view.now) name.now base inner.now all number.file model.now
+        number.index) hunt.old hunt.new) }
 {
     let import = model.import(number.index);
     let shown = is_shown(all, import.visibility);
@@ -186,11 +181,9 @@ fn add_imports<T: Tiers>(
     requires there { model_of view.now.models.now file.0 ≡ Some model.now }
     requires stand { All (λ k. k < length model.now.imports) numbers.now }
     requires links { HasLinks view.now }
-    ensures { OnOk result ((base : ℕ) → Defers (library_of view.now.models.now) name.now base
-        view.now.models.now (read_by view.now) inner.now
-        (length numbers.now) (joined (shown_import (library_of view.now.models.now) name.now base
-        inner.now all file model.now) numbers.now
-        (read_by view.now)) hunt.old hunt.new) }
+    ensures { OnOk result (DefersIn view.now name.now inner.now (length numbers.now)
+        (λ base. joined (shown_import (lib_of view.now) name.now base inner.now all file model.now)
+        numbers.now) hunt.old hunt.new) }
 {
     for index in numbers {
         let number = ImportNo {
@@ -222,12 +215,10 @@ fn add_imports_of<T: Tiers>(
 ) -> Result<(), NoMemory>
     requires stands { StandsIn view.now.models.now of }
     requires links { HasLinks view.now }
-    ensures { OnOk result ((base : ℕ) → Defers (library_of view.now.models.now) name.now base
-        view.now.models.now (read_by view.now) inner.now
-        (length (imports_at view.now.models.now of)) (imports.import_tier
-        (again_from (library_of view.now.models.now) name.now base inner.now)
-        (λ i. all || is_public i.visibility) name.now of
-        (read_by view.now)) hunt.old hunt.new) }
+    ensures { OnOk result (DefersIn view.now name.now inner.now
+        (length (imports_at view.now.models.now of))
+        (λ base. shown_imports (lib_of view.now) name.now base inner.now all of)
+        hunt.old hunt.new) }
 {
     let model = model(view, of.file, &mut hunt.notes)?;
     let numbers = model.imports_of(of.index);
@@ -250,11 +241,10 @@ fn add_tiers<T: Tiers>(
 ) -> Result<(), NoMemory>
     requires stands { StandsIn view.now.models.now of }
     requires links { HasLinks view.now }
-    ensures { OnOk result ((base : ℕ) → Defers (library_of view.now.models.now) name.now base
-        view.now.models.now (read_by view.now) inner.now
-        (length (imports_at view.now.models.now of)) (tiers_then
-        (library_of view.now.models.now) name.now base inner.now all of
-        (read_by view.now)) hunt.old hunt.new) }
+    ensures { OnOk result (DefersIn view.now name.now inner.now
+        (length (imports_at view.now.models.now of))
+        (λ base. tiers_then (lib_of view.now) name.now base inner.now all of)
+        hunt.old hunt.new) }
 {
     let gains = tiers.own(alloc, view, of, name, all)?;
     hunt.add(&gains)?;
@@ -275,9 +265,8 @@ fn defer_owned(
     target: Target,
     hunt: &mut Hunt,
 ) -> Result<(), NoMemory>
-    ensures { OnOk result ((lib : Library) (x : List ℕ) (base : ℕ) (files : List StoredFile)
-        (w : LinkWorld) → TargetStandsIn files file target → Defers lib x base files w inner.now 1
-        (imports.in_owned (again_from lib x base inner.now) all file target w)
+    ensures { OnOk result (DefersWhere (λ files. TargetStandsIn files file target) inner.now 1
+        (λ lib x base. imports.in_owned (again_from lib x base inner.now) all file target)
         hunt.old hunt.new) }
 {
     match target {
@@ -300,9 +289,8 @@ fn add_member(
     hunt: &mut Hunt,
 ) -> Result<(), NoMemory>
     requires stands { number < length model.now.members }
-    ensures { OnOk result ((lib : Library) (x : List ℕ) (base : ℕ) (files : List StoredFile)
-        (w : LinkWorld) → model_of files file.0 ≡ Some model.now → Defers lib x base files w
-        inner.now 1 (owned_part lib x base inner.now all file model.now number w)
+    ensures { OnOk result (DefersWhere (λ files. model_of files file.0 ≡ Some model.now)
+        inner.now 1 (λ lib x base. owned_part lib x base inner.now all file model.now number)
         hunt.old hunt.new) }
 {
     let member = model.member(number);
@@ -348,10 +336,9 @@ fn add_members(
     hunt: &mut Hunt,
 ) -> Result<(), NoMemory>
     requires stand { All (λ k. k < length model.now.members) numbers.now }
-    ensures { OnOk result ((lib : Library) (x : List ℕ) (base : ℕ) (files : List StoredFile)
-        (w : LinkWorld) → model_of files file.0 ≡ Some model.now → Defers lib x base files w
-        inner.now (length numbers.now) (joined (owned_part lib x base inner.now all file model.now)
-        numbers.now w) hunt.old hunt.new) }
+    ensures { OnOk result (DefersWhere (HasThere file model.now) inner.now (length numbers.now)
+        (λ lib x base. joined (owned_part lib x base inner.now all file model.now) numbers.now)
+        hunt.old hunt.new) }
 {
     for number in numbers {
         add_member(alloc, all, inner, file, model, *number, hunt)?;
@@ -369,11 +356,10 @@ fn add_inside(
     hunt: &mut Hunt,
 ) -> Result<(), NoMemory>
     requires stands { StandsIn view.now.models.now of }
-    ensures { OnOk result ((lib : Library) (x : List ℕ) (base : ℕ) → Defers lib x base
-        view.now.models.now (read_by view.now) inner.now
-        (length (members_at view.now.models.now of)) (imports.inside
-        (again_from lib x base inner.now) all of
-        (read_by view.now)) hunt.old hunt.new) }
+    ensures { OnOk result (DefersInside view.now inner.now
+        (length (members_at view.now.models.now of))
+        (λ lib x base. imports.inside (again_from lib x base inner.now) all of)
+        hunt.old hunt.new) }
 {
     let model = model(view, of.file, &mut hunt.notes)?;
     let items = model.items(of.index);
@@ -393,11 +379,10 @@ fn add_inside_if(
     hunt: &mut Hunt,
 ) -> Result<(), NoMemory>
     requires stands { StandsIn view.now.models.now of }
-    ensures { OnOk result ((lib : Library) (x : List ℕ) (base : ℕ) → Defers lib x base
-        view.now.models.now (read_by view.now) inner.now
-        (length (members_at view.now.models.now of)) (cond asked (imports.inside
-        (again_from lib x base inner.now) all of) (done [])
-        (read_by view.now)) hunt.old hunt.new) }
+    ensures { OnOk result (DefersInside view.now inner.now
+        (length (members_at view.now.models.now of)) (λ lib x base.
+        cond asked (imports.inside (again_from lib x base inner.now) all of) (done []))
+        hunt.old hunt.new) }
 {
     if asked {
         add_inside(alloc, view, all, inner, of, hunt)?;
@@ -416,12 +401,7 @@ fn expand<T: Tiers>(
 ) -> Result<(), NoMemory>
     requires stands { StandsIn view.now.models.now task.now.namespace }
     requires links { HasLinks view.now }
-    ensures gives { OnOk result ((base : ℕ) → 2 ^ 64 ≤ base
-        → Defers (library_of view.now.models.now) name.now base view.now.models.now
-        (read_by view.now)
-        (task.now.namespace ∷ task.now.excluded) (width view.now.models.now task.now)
-        (asks_task (library_of view.now.models.now) name.now base task.now
-        (read_by view.now)) hunt.old hunt.new) }
+    ensures gives { OnOk result (GivesTask view.now name.now task.now hunt.old hunt.new) }
     ensures excluded { OnOk result (keys.is_in task.now.namespace task.now.excluded ≡ true
         → hunt.new ≡ hunt.old) }
 {
@@ -466,10 +446,7 @@ fn run<T: Tiers>(
 ) -> Result<Gains<Hit>, NoMemory>
     requires stand { AllTasksStand view.now.models.now hunt.nodes }
     requires links { HasLinks view.now }
-    ensures { IfOk result (λ gains. (base : ℕ) (a : HitAsked) → 2 ^ 64 ≤ base
-        → IsSound (read_by view.now).table a.step a.looks
-        → IsHunt (library_of view.now.models.now) name.now base
-        (read_by view.now) a hunt → IsAsked gains a) }
+    ensures { IfOk result (EndsHunt view.now name.now hunt) }
 {
     // A call tells what holds of all files.
     let _ = view.models.files();
@@ -496,7 +473,7 @@ pub fn visible_hits<T: Tiers>(
     requires stands { StandsIn view.now.models.now of }
     requires links { HasLinks view.now }
     ensures { IfOk result (λ gains. IsAsked gains
-        (imports.visible (library_of view.now.models.now) name.now excluded.now recursive all of
+        (imports.visible (lib_of view.now) name.now excluded.now recursive all of
         (read_by view.now))) }
 {
     let mut hunt = Hunt::new(alloc);
@@ -516,11 +493,9 @@ fn add_numbered<T: Tiers>(
 ) -> Result<(), NoMemory>
     requires stands { ImportStands view.now.models.now import }
     requires links { HasLinks view.now }
-    ensures { OnOk result ((base : ℕ) → Defers (library_of view.now.models.now) name.now base
-        view.now.models.now (read_by view.now) excluded.now 1
-        (brings name.now import
-        (again_from (library_of view.now.models.now) name.now base excluded.now)
-        (read_by view.now)) hunt.old hunt.new) }
+    ensures { OnOk result (DefersIn view.now name.now excluded.now 1
+        (λ base. brings name.now import (again_from (lib_of view.now) name.now base excluded.now))
+        hunt.old hunt.new) }
 {
     let model = model(view, import.file, &mut hunt.notes)?;
     let own = model.import(import.index);

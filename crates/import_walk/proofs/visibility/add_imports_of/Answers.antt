@@ -25,9 +25,13 @@ returns g c base =
     let there = done_same _ _ c.in_ok-model.ensures.read.step in
     let tasks = c.hunt.inside.tasks.items in
     let found = c.hunt.inside.found in
-    subst (λ z. Defers lib x base files w inner (length (imports_at files c.args.of)) (import_tier (again_from lib x base inner) (λ i. all || is_public i.visibility) x c.args.of w) z c.add_imports.new.hunt) c.hunt.view_is
-    (defers_read lib x base files w inner (length (imports_at files c.args.of)) (model f) (λ m. joined (shown_import lib x base inner all f m) (imports_of m c.args.of.index)) d tasks found c.hunt.inside.notes c.model.new.notes c.add_imports.new.hunt
+    subst (λ z. Defers lib x base files w inner (length (imports_at files c.args.of)) (import_tier (again_from lib x base inner)
+        (λ i. all || is_public i.visibility) x c.args.of w) z c.add_imports.new.hunt) c.hunt.view_is
+    (defers_read lib x base files w inner (length (imports_at files c.args.of)) (model f) (λ m. joined (shown_import lib x base inner all f m)
+        (imports_of m c.args.of.index)) d tasks found c.hunt.inside.notes c.model.new.notes c.add_imports.new.hunt
     c.in_ok-model.ensures.read
-    (subst (λ (m : Data). Defers lib x base files w inner (length (imports_of m c.args.of.index)) (joined (shown_import lib x base inner all f d) (imports_of d c.args.of.index) w) (hunt_of tasks found c.model.new.notes) c.add_imports.new.hunt) (sym there)
-    (subst (λ (ks : List ℕ). Defers lib x base files w inner (length ks) (joined (shown_import lib x base inner all f d) ks w) (hunt_of tasks found c.model.new.notes) c.add_imports.new.hunt) c.imports_of-numbers.ensures.lent
+    (subst (λ (m : Data). Defers lib x base files w inner (length (imports_of m c.args.of.index)) (joined (shown_import lib x base inner all f d)
+        (imports_of d c.args.of.index) w) (hunt_of tasks found c.model.new.notes) c.add_imports.new.hunt) (sym there)
+    (subst (λ (ks : List ℕ). Defers lib x base files w inner (length ks) (joined (shown_import lib x base inner all f d) ks w)
+        (hunt_of tasks found c.model.new.notes) c.add_imports.new.hunt) c.imports_of-numbers.ensures.lent
     (c.in_ok-add_imports.ensures base))))

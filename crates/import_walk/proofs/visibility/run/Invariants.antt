@@ -9,7 +9,8 @@ use Rattle.import_walk.proofs.visibility.run.Given as goal
 abbrev pub invariant-loop-task : goal.invariant-loop-task
 invariant-loop-task g l = record {
   stand : AllTasksStand (files_of l.fn.view) l.hunt.nodes;
-  hunt : (base : ℕ) (a : HitAsked) → 2 ^ 64 ≤ base → IsHunt (library_of (files_of l.fn.view)) l.name base (read_by l.fn.view) a l.fn.hunt → IsHunt (library_of (files_of l.fn.view)) l.name base (read_by l.fn.view) a l.hunt;
+  hunt : (base : ℕ) (a : HitAsked) → 2 ^ 64 ≤ base → IsHunt (library_of (files_of l.fn.view)) l.name base (read_by l.fn.view) a l.fn.hunt → IsHunt
+      (library_of (files_of l.fn.view)) l.name base (read_by l.fn.view) a l.hunt;
 }
 
 abbrev pub decreases-loop-task : goal.decreases-loop-task
