@@ -1,14 +1,12 @@
 -- The members that bear a name, taken one after another by the table of names, give what all members give.
-use Rattle.std.proofs.Common.{◌≡◌, ℕ, ◌+◌, ◌-◌, ◌<◌, ◌≤◌, Bool, true, false, List, [], ◌∷◌, ◌++◌, length, refl, sym, ◌∙◌, ap, subst, inl, inr, arith, append_assoc, append-nil}
+use Rattle.std.proofs.Common.{◌≡◌, ℕ, ◌+◌, ◌-◌, ◌<◌, ◌≤◌, Bool, true, false, List, [], ◌∷◌, ◌++◌, refl, sym, ◌∙◌, ap, subst, inl, inr, arith, append_assoc, append-nil}
 use Rattle.std.proofs.lemmas.Bool.Decides.{nat_tests}
-use Rattle.std.specs.Prelude.{zero, suc, nat_eq, nat_lt, ◌&&◌, slice_get, Option, None, Some}
+use Rattle.std.specs.Prelude.{suc, nat_eq, nat_lt, ◌&&◌, slice_get, Option, None, Some}
 use Rattle.linker_base.specs.Members.{IsMember}
 use Rattle.linker_base.proofs.Cases.{bool_cases}
 use Rattle.demand_core.specs.Computation.{Asked, done, join_step, join, joined}
 use Rattle.demand_core.specs.Search.{Trail}
 use Rattle.demand_core.proofs.LoopLaws.{join_assoc, join_first, join_last}
-use Rattle.demand_core.specs.declared.step.Step.{Step}
-use Rattle.demand_core.specs.declared.looks.Fact.{Fact}
 use Rattle.element_store.specs.declared.numbers.FileNo.{FileNo}
 use Rattle.element_store.specs.declared.numbers.ElementNo.{ElementNo}
 use Rattle.element_store.specs.declared.records.Member.{Member}
@@ -91,7 +89,8 @@ one_left after (n ∷ ns) m r h = elim (bool_cases (above after n)) [
       ] in
       let itself : nat_lt m n ≡ false = grind (arith, nat_tests, first) in
       rw (a, itself) (ap (λ k. k ∷ those_where (above after) ns) (sym first)
-      ∙ ap (λ ks. m ∷ ks) (all_above after ns (λ k is. let beyond = r.0 k is in above_all k beyond first a) ∙ sym (all_above (Some m) ns (λ k is. let beyond = r.0 k is in omega (arith, beyond, first)))))
+      ∙ ap (λ ks. m ∷ ks) (all_above after ns (λ k is. let beyond = r.0 k is in above_all k beyond first a) ∙ sym (all_above (Some m) ns
+      (λ k is. let beyond = r.0 k is in omega (arith, beyond, first)))))
   | inr b ↦
       let behind : nat_lt m n ≡ false = elim (bool_cases (nat_lt m n)) [
         | inl lt ↦ absurd (not_above after n b (lifted lt))
@@ -144,7 +143,8 @@ module _ (d : Data) (f : FileNo) (x : List ℕ) (e : ℕ) (w : LinkWorld) where
   part_bears_not n m at b = rw (at, b) refl
 
   parts_from : (n : ℕ) (ms : List Member) → ((i : ℕ) (m : Member) → slice_get ms i ≡ Some m → slice_get d.members (n + i) ≡ Some m)
-      → joined (declared_part d f x) (numbers_from n (λ m. nat_eq m.owner e) ms) w ≡ joined (hit_part d f) (numbers_from n (λ m. nat_eq m.owner e && bears x m) ms) w
+      → joined (declared_part d f x) (numbers_from n (λ m. nat_eq m.owner e) ms) w ≡ joined (hit_part d f) (numbers_from n
+      (λ m. nat_eq m.owner e && bears x m) ms) w
   parts_from n [] at = refl
   parts_from n (m ∷ ms) at =
       let here : slice_get d.members n ≡ Some m = subst (λ k. slice_get d.members k ≡ Some m) (omega arith) (at 0 m refl) in
@@ -185,13 +185,15 @@ pub taken_none : (d : Data) (f : FileNo) (x : List ℕ) (e : ℕ) (w : LinkWorld
 taken_none d f x e w start = record { taken = []; whole = sym (all_above None (bearers d.members e x) (λ m is. tt)); gained = gained_none w start }
 
 pub taken_next : (d : Data) (f : FileNo) (x : List ℕ) (e : ℕ) (w : LinkWorld) (start now new : Start) (after : Option ℕ) (m : ℕ)
-    → IsLeastAbove after (bearers d.members e x) (Some m) → AreTaken d f x e w start now after → Gained (hit_part d f m w) now new → AreTaken d f x e w start new (Some m)
+    → IsLeastAbove after (bearers d.members e x) (Some m) → AreTaken d f x e w start now after → Gained (hit_part d f m w) now new
+    → AreTaken d f x e w start new (Some m)
 taken_next d f x e w start now new after m least t g =
     let left = one_left after (bearers d.members e x) m (numbers_rise 0 (λ k. nat_eq k.owner e && bears x k) d.members) least in
     record {
       taken = t.taken ++ m ∷ [];
       whole = t.whole ∙ (ap (λ ks. t.taken ++ ks) left ∙ sym (append_assoc t.taken (m ∷ []) (those_where (above (Some m)) (bearers d.members e x))));
-      gained = subst (λ a. Gained a start new) (sym (joined_last w (hit_part d f) t.taken m)) (gained_join w (joined (hit_part d f) t.taken) (hit_part d f m) start now new t.gained g);
+      gained = subst (λ a. Gained a start new) (sym (joined_last w (hit_part d f) t.taken m)) (gained_join w (joined (hit_part d f) t.taken)
+          (hit_part d f m) start now new t.gained g);
     }
 
 pub taken_all : (d : Data) (f : FileNo) (x : List ℕ) (e : ℕ) (w : LinkWorld) (start now : Start) (after : Option ℕ)
@@ -206,5 +208,6 @@ left_above n None = n + 1
 left_above n (Some a) = n - a
 
 -- what is told of the member that stands there
-pub told_there : (d : Data) (f : FileNo) (k : ℕ) (m : Member) (w : LinkWorld) (old new : Start) → slice_get d.members k ≡ Some m → Gained (hit f k m w) old new → Gained (hit_part d f k w) old new
+pub told_there : (d : Data) (f : FileNo) (k : ℕ) (m : Member) (w : LinkWorld) (old new : Start) → slice_get d.members k ≡ Some m → Gained
+    (hit f k m w) old new → Gained (hit_part d f k w) old new
 told_there d f k m w old new at g = subst (λ (o : Option Member). Gained (told o (hit f k) w) old new) (sym at) g

@@ -1,11 +1,11 @@
 -- Hits of members, as parts of a stage.
-use Rattle.std.proofs.Common.{◌≡◌, ℕ, Bool, true, false, List, [], ◌∷◌, ◌++◌, map, refl, sym, ◌∙◌, ap, subst, inl, inr, append-nil}
-use Rattle.std.specs.Prelude.{◌⊎◌, Option, None, Some}
-use Rattle.linker_base.specs.Members.{IsMember, SameMembers}
+use Rattle.std.proofs.Common.{◌≡◌, ℕ, List, [], ◌∷◌, ◌++◌, map, refl, sym, ◌∙◌, ap, subst, inl, inr, append-nil}
+use Rattle.std.specs.Prelude.{◌⊎◌}
+use Rattle.linker_base.specs.Members.{IsMember}
 use Rattle.linker_base.proofs.MemberLaws.{same_members, member_left, member_right, member_cases}
 use Rattle.demand_core.specs.Rules.{WaitsOn}
 use Rattle.demand_core.specs.Computation.{Asked, done, then_step, ◌>>=◌}
-use Rattle.demand_core.specs.Search.{Part, Finds, Awaits, LooksAt, Shows, Admits, IsKnown, IsStep, IsAsked}
+use Rattle.demand_core.specs.Search.{Part, Finds, Awaits, LooksAt, Shows, Admits, IsKnown, IsStep}
 use Rattle.demand_core.specs.declared.looks.Fact.{Fact}
 use Rattle.demand_core.specs.declared.step.Step.{Step}
 use Rattle.demand_core.specs.declared.step.Step.TheVariants.{Done, Waits}
@@ -20,9 +20,8 @@ use Rattle.link_model.specs.Keys.{same_key, key_is_exact}
 use Rattle.link_model.specs.Readers.{LinkWorld, Lookup, is_named, only_if}
 use Rattle.link_model.specs.Names.{leads_to}
 use Rattle.link_walk.specs.Calls.{step_of}
-use Rattle.link_walk.specs.Noted.{Noted, noted, trail_of}
+use Rattle.link_walk.specs.Noted.{Noted, noted}
 use Rattle.link_walk.specs.Gained.{Gained}
-use Rattle.link_walk.specs.Marks.{marked_all}
 use Rattle.link_walk.specs.declared.reading.Read.{Read}
 use Rattle.link_walk.specs.declared.reading.Read.TheVariants.{Open, Nowhere, At}
 use Rattle.link_walk.proofs.GainLaws.{gains_of, mapped_by}
@@ -83,13 +82,15 @@ module _ (files : List StoredFile) (x : List ℕ) (h : Hit) where
   abbrev told : LinkWorld → Names → Asked LinkKey LinkFact (List Hit)
   told w a = then_step a (λ ns. done (only_if (is_named x ns) h) w) a.step
 
-  told_step : (w : LinkWorld) (n : Naming) (a : Names) → a.step ≡ (named_by files n).step → IsStep (named_hits files x h n) (naming_waits n) (told w a).step × ((told w a).looks ≡ a.looks)
+  told_step : (w : LinkWorld) (n : Naming) (a : Names) → a.step ≡ (named_by files n).step → IsStep (named_hits files x h n) (naming_waits n)
+      (told w a).step × ((told w a).looks ≡ a.looks)
   told_step w (naming.Open r) a is = rw is (same_members (record { 0 = r } ∷ []), refl)
   told_step w naming.Nameless a is = rw is (same_members [], append-nil a.looks)
   told_step w (naming.By e) a is = rw is (same_members (only_if (is_named x (own_names files e)) h), append-nil a.looks)
 
   -- where a way says whose names they are, what that gives is taken
-  pub named_taken : (w : LinkWorld) (c : Lookup (List (List ℕ))) (n : Naming) (found more : List Hit) (old mid last : Noted) → Leaves old mid (named_by files n) (c w)
+  pub named_taken : (w : LinkWorld) (c : Lookup (List (List ℕ))) (n : Naming) (found more : List Hit) (old mid last : Noted) → Leaves old mid
+      (named_by files n) (c w)
       → more ≡ found ++ named_hits files x h n → last ≡ noted (naming_waits n) [] mid
       → Gained ((c >>= λ ns. done (only_if (is_named x ns) h)) w) (gains_of found old) (gains_of more last)
   named_taken w c n found more old mid last leaves is waits =
@@ -110,11 +111,13 @@ module _ (files : List StoredFile) (x : List ℕ) (h : Hit) where
       looked : (f : Fact LinkKey LinkFact) → IsMember (c w).looks f → IsMember mid.looks f
       looked f m = elim (leaves.shown f m) [ inl now ↦ now | inr none ↦ absurd none ]
 
-      shown : (step : Step LinkKey (List Hit)) (looks : List (Fact LinkKey LinkFact)) → IsStep (named_hits files x h n) (naming_waits n) step → looks ≡ (c w).looks
+      shown : (step : Step LinkKey (List Hit)) (looks : List (Fact LinkKey LinkFact)) → IsStep (named_hits files x h n) (naming_waits n) step → looks ≡
+          (c w).looks
           → (y : Part LinkKey LinkFact Hit) → Shows (record { step = step; looks = looks }) y → Now files x h n found mid y
       shown step looks s l (Finds z) m = member_right found (named_hits files x h n) z (finds (named_hits files x h n) (naming_waits n) step s m)
         where
-          finds : (fs : List Hit) (ks : List LinkKey) (t : Step LinkKey (List Hit)) → IsStep fs ks t → Shows {F = LinkFact} (record { step = t; looks = [] }) (Finds z) → IsMember fs z
+          finds : (fs : List Hit) (ks : List LinkKey) (t : Step LinkKey (List Hit)) → IsStep fs ks t → Shows {F = LinkFact}
+              (record { step = t; looks = [] }) (Finds z) → IsMember fs z
           finds fs [] (Done ys) s m = s.right z m
           finds fs [] (Waits ls) s m = absurd s
           finds fs (k ∷ ks) (Done ys) s m = absurd s
@@ -128,14 +131,16 @@ module _ (files : List StoredFile) (x : List ℕ) (h : Hit) where
           awaits fs (k ∷ ks) (Waits ls) s m = s.right q m
       shown step looks s l (LooksAt f) m = looked f (subst (λ fs. IsMember fs f) l m)
 
-      only : (step : Step LinkKey (List Hit)) (looks : List (Fact LinkKey LinkFact)) → IsStep (named_hits files x h n) (naming_waits n) step → looks ≡ (c w).looks
+      only : (step : Step LinkKey (List Hit)) (looks : List (Fact LinkKey LinkFact)) → IsStep (named_hits files x h n) (naming_waits n) step → looks ≡
+          (c w).looks
           → (y : Part LinkKey LinkFact Hit) → Now files x h n found mid y → IsKnown (gains_of found old) y ⊎ Admits (record { step = step; looks = looks }) y
       only step looks s l (Finds z) k = elim (member_cases found (named_hits files x h n) z k) [
         | inl before ↦ inl before
         | inr now ↦ inr (finds (named_hits files x h n) (naming_waits n) step s now)
       ]
         where
-          finds : (fs : List Hit) (ks : List LinkKey) (t : Step LinkKey (List Hit)) → IsStep fs ks t → IsMember fs z → Admits (record { step = t; looks = looks }) (Finds z)
+          finds : (fs : List Hit) (ks : List LinkKey) (t : Step LinkKey (List Hit)) → IsStep fs ks t → IsMember fs z → Admits
+              (record { step = t; looks = looks }) (Finds z)
           finds fs [] (Done ys) s m = s.left z m
           finds fs [] (Waits ls) s m = absurd s
           finds fs (k ∷ ks) (Done ys) s m = absurd s

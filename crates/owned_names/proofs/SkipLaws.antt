@@ -1,17 +1,16 @@
 -- Members without a redefinition have no effective name: the second tier is what the redefining members give.
-use Rattle.std.proofs.Common.{◌≡◌, ℕ, ◌+◌, Bool, true, false, List, [], ◌∷◌, ◌++◌, get_or, drop, append-nil, refl, sym, ◌∙◌, ap, subst, inl, inr, arith}
-use Rattle.std.specs.Prelude.{zero, suc, not, ◌⊎◌, nat_eq, ◌&&◌, ◌^◌, ◌-◌, slice_get, Option, None, Some}
+use Rattle.std.proofs.Common.{◌≡◌, ℕ, ◌+◌, true, false, List, [], ◌∷◌, ◌++◌, get_or, drop, append-nil, refl, sym, ◌∙◌, ap, subst, inl, inr, arith}
+use Rattle.std.specs.Prelude.{zero, suc, not, ◌⊎◌, nat_eq, ◌&&◌, ◌^◌, ◌-◌, slice_get, None, Some}
 use Rattle.std.specs.List.{flat_map}
-use Rattle.linker_base.specs.Members.{IsMember, SameMembers}
+use Rattle.linker_base.specs.Members.{IsMember}
 use Rattle.linker_base.proofs.Cases.{bool_cases}
-use Rattle.linker_base.proofs.MemberLaws.{same_members, member_left, member_right, member_cases}
+use Rattle.linker_base.proofs.MemberLaws.{member_left, member_right, member_cases}
 use Rattle.demand_core.specs.Computation.{Asked, done, then_step, join_step, joined}
 use Rattle.demand_core.specs.Rules.{WaitsOn}
 use Rattle.demand_core.specs.Search.{Part, Finds, Awaits, LooksAt, Has, MayHave, Shows, Admits, Trail, IsKnown}
 use Rattle.demand_core.proofs.LoopLaws.{join_first}
 use Rattle.link_walk.specs.Gained.{Gained}
-use Rattle.demand_core.specs.declared.step.Step.{Step}
-use Rattle.demand_core.specs.declared.step.Step.TheVariants.{Done, Waits}
+use Rattle.demand_core.specs.declared.step.Step.TheVariants.{Done}
 use Rattle.demand_core.specs.declared.looks.Fact.{Fact}
 use Rattle.demand_core.specs.declared.looks.Fact.TheVariants.{Outer}
 use Rattle.element_store.specs.declared.numbers.FileNo.{FileNo}
@@ -21,7 +20,7 @@ use Rattle.element_store.specs.declared.records.Member.{Member}
 use Rattle.element_store.specs.declared.records.Target.{Target}
 use Rattle.element_store.specs.declared.records.Target.TheVariants.{Owned, Alias}
 use Rattle.element_store.specs.Model.{Data, root_element}
-use Rattle.element_store.specs.Numbers.{chosen, numbers_from}
+use Rattle.element_store.specs.Numbers.{numbers_from}
 use Rattle.element_store.specs.Condition.{IsModel, Owning, owning, owned_from, members_of}
 use Rattle.element_store.specs.Readings.{is_any, redefinitions_in, is_redefining, redefining_of}
 use Rattle.link_model.specs.declared.keys.LinkKey.{LinkKey}
@@ -32,7 +31,7 @@ use Rattle.element_store.specs.declared.outcome.Outcome.{Outcome}
 use Rattle.element_store.specs.declared.models.StoredFile.{StoredFile}
 use Rattle.link_model.specs.Outside.{model_in}
 use Rattle.link_model.specs.Readers.{is_nil, is_named, only_if}
-use Rattle.link_model.specs.Names.{declared_names, names, effective_hit, hit_named}
+use Rattle.link_model.specs.Names.{declared_names, names, hit_named}
 use Rattle.link_walk.specs.Calls.{reading}
 use Rattle.owned_names.specs.Walked.{first_in, own_names, effective_part}
 use Rattle.owned_names.proofs.WayLaws.{step_none}
@@ -55,7 +54,15 @@ owning_among (x ∷ ms) (suc k) m c at is = member_right (owning x.target x) (fl
 owned_back : (n : ℕ) (es : List Element) (o : Owning) → IsMember (owned_from n es) o
     → (j : ℕ) × (x : Element) × (o.element ≡ n + j) × (slice_get es j ≡ Some x) × (x.short ≡ o.short) × (x.name ≡ o.name)
 owned_back n [] o among = absurd among
-owned_back n (e ∷ es) o (inl is) = (0, e, (let same : n ≡ o.element = ap (λ (p : Owning). p.element) is in omega (arith, same)), refl, ap (λ (p : Owning). p.short) is, ap (λ (p : Owning). p.name) is)
+owned_back n (e ∷ es) o (inl is) = (
+  0,
+  e,
+  (let same : n ≡ o.element = ap (λ (p : Owning). p.element) is in omega (arith, same)),
+  refl,
+  ap (λ
+      (p : Owning). p.short) is,
+  ap (λ (p : Owning). p.name) is,
+)
 owned_back n (e ∷ es) o (inr more) = let r = owned_back (suc n) es o more in (suc r.0, r.1, omega (arith, r.2), r.3, r.4, r.5)
 
 after_root : (es : List Element) (j : ℕ) (x : Element) → slice_get (drop 1 es) j ≡ Some x → get_or es (suc j) root_element ≡ x
@@ -73,7 +80,8 @@ owned_names_are d model k m c at is =
     let own : Owning = record { element = c; owner = Some m.owner; short = m.short; name = m.name } in
     let back = owned_back 1 (drop 1 d.elements) own (subst (λ os. IsMember os own) model.owned (owning_among d.members k m c at is)) in
     let place : suc back.0 ≡ c = omega (arith, back.2) in
-    let there : get_or d.elements c root_element ≡ back.1 = ap (λ i. get_or d.elements i root_element) (sym place) ∙ after_root d.elements back.0 back.1 back.3 in
+    let there : get_or d.elements c root_element ≡ back.1 = ap (λ i. get_or d.elements i root_element) (sym place)
+    ∙ after_root d.elements back.0 back.1 back.3 in
     ap (λ (x : Element). declared_names x.short x.name) there ∙ λ i. declared_names (back.4 i) (back.5 i)
 
 -- ---- what is skipped
@@ -99,7 +107,8 @@ record IsNothing (look : Fact LinkKey LinkFact) (a : Hits) : Type 0 where
   pub step : a.step ≡ Done []
   pub looks : (y : Fact LinkKey LinkFact) → IsMember a.looks y → look ≡ y
 
-module _ (files : List StoredFile) (table : List (LinkKey × Outcome)) (f : FileNo) (d : Data) (there : model_in (slice_get files f.0) ≡ d) (model : IsModel d) (x : List ℕ) where
+module _ (files : List StoredFile) (table : List (LinkKey × Outcome)) (f : FileNo) (d : Data) (there : model_in (slice_get files f.0) ≡ d)
+    (model : IsModel d) (x : List ℕ) where
   abbrev look : Fact LinkKey LinkFact
   look = Outer (File f)
 
@@ -108,13 +117,15 @@ module _ (files : List StoredFile) (table : List (LinkKey × Outcome)) (f : File
 
   nameless : (c : ℕ) → is_nil (declared_names (get_or d.elements c root_element).short (get_or d.elements c root_element).name) ≡ true
       → not (is_nil (own_names files (at c))) ≡ false
-  nameless c nil = subst (λ (m : Data). not (is_nil (declared_names (get_or m.elements c root_element).short (get_or m.elements c root_element).name)) ≡ false) (sym there) (ap not nil)
+  nameless c nil = subst (λ (m : Data). not (is_nil (declared_names (get_or m.elements c root_element).short (get_or m.elements c root_element).name))
+      ≡ false) (sym there) (ap not nil)
 
   no_first : (c : ℕ) → is_any (redefinitions_in d.references c) ≡ false → first_in (redefinitions_in (model_in (slice_get files f.0)).references c) ≡ None
   no_first c e = subst (λ (m : Data). first_in (redefinitions_in m.references c) ≡ None) (sym there) (nil_of (redefinitions_in d.references c) e)
 
   hit_step : (k c : ℕ) (a : Asked LinkKey LinkFact (List (List ℕ))) → a.step ≡ Done []
-      → then_step a (λ ns. done (only_if {A = Hit} (is_named x ns) (record { member = record { file = f; index = k }; element = at c })) (reading files table)) a.step
+      → then_step a (λ ns. done (only_if {A = Hit} (is_named x ns) (record { member = record { file = f; index = k }; element = at c }))
+      (reading files table)) a.step
       ≡ record { step = Done []; looks = a.looks ++ [] }
   hit_step k c a is = rw is refl
 
@@ -129,7 +140,8 @@ module _ (files : List StoredFile) (table : List (LinkKey × Outcome)) (f : File
         looks = λ y m. only_look y (known y (leaves.shown y (no_more y (subst (λ (a : Hits). IsMember a.looks y) is m))));
       }
     where
-      no_more : (y : Fact LinkKey LinkFact) → IsMember ((names (at c) (reading files table)).looks ++ []) y → IsMember (names (at c) (reading files table)).looks y
+      no_more : (y : Fact LinkKey LinkFact) → IsMember ((names (at c) (reading files table)).looks ++ []) y → IsMember (names (at c)
+          (reading files table)).looks y
       no_more y m = subst (λ fs. IsMember fs y) (append-nil (names (at c) (reading files table)).looks) m
 
       known : (y : Fact LinkKey LinkFact) → IsMember (look ∷ []) y ⊎ ⊥ → IsMember (look ∷ []) y
@@ -157,14 +169,19 @@ module _ (files : List StoredFile) (table : List (LinkKey × Outcome)) (f : File
     right = λ y among. member_right a.looks b.looks y (s.right y among);
   }
 
-  keep : (a b c : Hits) → AreSame look b c → AreSame look (record { step = join_step a.step b.step; looks = a.looks ++ b.looks }) (record { step = join_step a.step c.step; looks = a.looks ++ c.looks })
+  keep : (a b c : Hits) → AreSame look b c → AreSame look (record { step = join_step a.step b.step; looks = a.looks ++ b.looks })
+      (record { step = join_step a.step c.step; looks = a.looks ++ c.looks })
   keep a b c s = record {
     step = ap (join_step a.step) s.step;
     left = λ y among. elim (member_cases a.looks b.looks y among) [
       | inl l ↦ inr (member_left a.looks c.looks y l)
       | inr r ↦ elim (s.left y r) [ inl is ↦ inl is | inr m ↦ inr (member_right a.looks c.looks y m) ]
     ];
-    right = λ y among. elim (member_cases a.looks c.looks y among) [ inl l ↦ member_left a.looks b.looks y l | inr r ↦ member_right a.looks b.looks y (s.right y r) ];
+    right = λ y among. elim (member_cases a.looks c.looks y among) [
+      | inl l ↦ member_left a.looks b.looks y l
+      | inr r ↦ member_right a.looks b.looks y
+          (s.right y r)
+    ];
   }
 
   skipped_from : (e n : ℕ) (ms : List Member) → ((i : ℕ) (m : Member) → slice_get ms i ≡ Some m → slice_get d.members (n + i) ≡ Some m)
@@ -182,11 +199,13 @@ module _ (files : List StoredFile) (table : List (LinkKey × Outcome)) (f : File
         ]
       ]
 
-  pub skipped : (e : ℕ) → AreSame look (joined (effective_part d f x) (members_of d e) (reading files table)) (joined (effective_part d f x) (redefining_of d e) (reading files table))
+  pub skipped : (e : ℕ) → AreSame look (joined (effective_part d f x) (members_of d e) (reading files table)) (joined (effective_part d f x)
+      (redefining_of d e) (reading files table))
   skipped e = skipped_from e 0 d.members (λ i m get. subst (λ k. slice_get d.members k ≡ Some m) (omega arith) get)
 
 -- what is the same but for looks at a file that is known is gained too
-pub gained_same : (look : Fact LinkKey LinkFact) (a b : Hits) (start now : Trail LinkKey LinkFact ElementNo Hit) → AreSame look a b → IsMember start.looks look → Gained b start now → Gained a start now
+pub gained_same : (look : Fact LinkKey LinkFact) (a b : Hits) (start now : Trail LinkKey LinkFact ElementNo Hit) → AreSame look a b
+    → IsMember start.looks look → Gained b start now → Gained a start now
 gained_same look a b start now same known g = record { kept = g.kept; shown = shown; only = only }
   where
     shown : (y : Part LinkKey LinkFact Hit) → Shows a y → IsKnown now y

@@ -1,16 +1,15 @@
 -- The way from an element to the one that names it, step by step.
-use Rattle.std.proofs.Common.{◌≡◌, ℕ, ◌+◌, ◌<◌, ◌≤◌, Bool, true, false, cond, List, [], ◌∷◌, ◌++◌, length, get_or, refl, sym, ◌∙◌, ap, subst, inl, inr, arith, append_assoc, append-nil}
+use Rattle.std.proofs.Common.{◌≡◌, ℕ, ◌+◌, ◌<◌, ◌≤◌, Bool, true, false, cond, List, [], ◌∷◌, get_or, refl, sym, ◌∙◌, ap, subst, inl, inr, arith}
 use Rattle.std.proofs.lemmas.Bool.{cases_lt}
 use Rattle.std.proofs.lemmas.Bool.Decides.{nat_tests}
-use Rattle.std.specs.Prelude.{zero, suc, ◌⊎◌, not, nat_eq, ◌&&◌, ◌||◌, map, slice_get, Option, None, Some}
-use Rattle.std.specs.List.{list_all}
+use Rattle.std.specs.Prelude.{zero, suc, ◌⊎◌, not, nat_eq, ◌&&◌, ◌||◌, map, slice_get, None, Some}
 use Rattle.std.specs.Option.{option_map_or}
 use Rattle.linker_base.specs.Members.{IsMember}
 use Rattle.linker_base.proofs.Cases.{bool_cases, both_true}
 use Rattle.linker_base.proofs.MemberLaws.{member_left, member_right, member_cases}
-use Rattle.demand_core.specs.Computation.{Asked, done, then_step, ◌>>=◌}
+use Rattle.demand_core.specs.Computation.{done, then_step, ◌>>=◌}
 use Rattle.demand_core.specs.declared.step.Step.{Step}
-use Rattle.demand_core.specs.declared.step.Step.TheVariants.{Done, Waits}
+use Rattle.demand_core.specs.declared.step.Step.TheVariants.{Done}
 use Rattle.demand_core.specs.declared.looks.Fact.{Fact}
 use Rattle.demand_core.specs.declared.looks.Fact.TheVariants.{Outer}
 use Rattle.element_store.specs.declared.numbers.ElementNo.{ElementNo}
@@ -59,7 +58,8 @@ first_is n zero test (y ∷ xs) x at is none =
 first_is n (suc k) test (y ∷ xs) x at is none =
     rw (none 0 y (omega arith) refl) (first_is (suc n) k test xs x at is (λ i z lt get. none (suc i) z (omega arith) get) ∙ ap Some (omega arith))
 
-pub first_none : {A : Type 0} (n : ℕ) (test : A → Bool) (xs : List A) → ((i : ℕ) (y : A) → slice_get xs i ≡ Some y → test y ≡ false) → first_in (numbers_from n test xs) ≡ None
+pub first_none : {A : Type 0} (n : ℕ) (test : A → Bool) (xs : List A) → ((i : ℕ) (y : A) → slice_get xs i ≡ Some y → test y ≡ false) → first_in
+    (numbers_from n test xs) ≡ None
 first_none n test [] none = refl
 first_none n test (y ∷ xs) none = rw (none 0 y refl) (first_none (suc n) test xs (λ i z get. none (suc i) z get))
 
@@ -94,7 +94,14 @@ first_found : {A : Type 0} (n k : ℕ) (test : A → Bool) (xs : List A) → fir
     → (i : ℕ) × (x : A) × (k ≡ n + i) × (slice_get xs i ≡ Some x) × (test x ≡ true)
 first_found n k test [] e = cc
 first_found n k test (y ∷ xs) e = elim (bool_cases (test y)) [
-  | inl a ↦ (0, y, (let here : Some n ≡ Some k = subst (λ b. first_in (chosen b n (numbers_from (suc n) test xs)) ≡ Some k) a e in let same : n ≡ k = cc in omega (arith, same)), refl, a)
+  | inl a ↦ (
+    0,
+    y,
+    (let here : Some n ≡ Some k = subst (λ b. first_in (chosen b n (numbers_from (suc n) test xs)) ≡ Some k) a e in let same : n
+        ≡ k = cc in omega (arith, same)),
+    refl,
+    a,
+  )
   | inr b ↦
       let more = first_found (suc n) k test xs (subst (λ c. first_in (chosen c n (numbers_from (suc n) test xs)) ≡ Some k) b e) in
       (suc more.0, more.1, omega (arith, more.2), more.3, more.4)
@@ -104,14 +111,17 @@ eq_exact : (a b : ℕ) → nat_eq a b ≡ true → a ≡ b
 eq_exact a b h = grind (arith, nat_tests)
 
 -- an element with a redefinition is a feature
-pub redefines_feature : (d : Data) → IsModel d → (e k : ℕ) → first_in (redefinitions_in d.references e) ≡ Some k → is_feature (get_or d.elements e root_element).kind ≡ true
+pub redefines_feature : (d : Data) → IsModel d → (e k : ℕ) → first_in (redefinitions_in d.references e) ≡ Some k → is_feature
+    (get_or d.elements e root_element).kind ≡ true
 redefines_feature d m e k first =
     let found = first_found 0 k (λ (r : Reference). nat_eq r.context e && is_redefinition r.role) d.references first in
     let both = both_true (nat_eq found.1.context e) (is_redefinition found.1.role) found.4 in
     let fits = all_at (context_fits d) found.0 d.references found.1 m.contexts found.3 in
-    at_place d.elements e found.1.role both.1 (subst (λ (i : ℕ). option_map_or (λ (x : Element). role_fits found.1.role x.kind) (slice_get d.elements i) false ≡ true) (eq_exact found.1.context e both.0) fits)
+    at_place d.elements e found.1.role both.1 (subst (λ (i : ℕ). option_map_or (λ (x : Element). role_fits found.1.role x.kind)
+    (slice_get d.elements i) false ≡ true) (eq_exact found.1.context e both.0) fits)
   where
-    at_place : (es : List Element) (i : ℕ) (r : Role) → is_redefinition r ≡ true → option_map_or (λ (x : Element). role_fits r x.kind) (slice_get es i) false ≡ true → is_feature (get_or es i root_element).kind ≡ true
+    at_place : (es : List Element) (i : ℕ) (r : Role) → is_redefinition r ≡ true → option_map_or (λ (x : Element). role_fits r x.kind)
+        (slice_get es i) false ≡ true → is_feature (get_or es i root_element).kind ≡ true
     at_place [] i r is fits = cc
     at_place (x ∷ es) zero r is fits = redefines_fits r x is fits
     at_place (x ∷ es) (suc i) r is fits = at_place es i r is fits
@@ -125,19 +135,22 @@ NoneYet refs from k = (j : ℕ) (r : Reference) → from ≤ j → j < k → sli
 
 module _ (refs : List Reference) (e from upto k : ℕ) where
   -- nor is it one of the element's before that place
-  before_place : AreReferencesOf refs e from upto → NoneYet refs from k → (i : ℕ) (r : Reference) → i < upto → (i < upto → i < k) → slice_get refs i ≡ Some r → (nat_eq r.context e && is_redefinition r.role) ≡ false
+  before_place : AreReferencesOf refs e from upto → NoneYet refs from k → (i : ℕ) (r : Reference) → i < upto → (i < upto → i < k) → slice_get refs i
+      ≡ Some r → (nat_eq r.context e && is_redefinition r.role) ≡ false
   before_place own none i r lt short at = elim (bool_cases (nat_eq r.context e)) [
     | inl same ↦ rw same (none i r ((own.own i r at).0 (eq_exact r.context e same)).0 (short lt) at)
     | inr other ↦ rw other refl
   ]
 
-  other_context : AreReferencesOf refs e from upto → (i : ℕ) (r : Reference) → upto ≤ i → slice_get refs i ≡ Some r → (nat_eq r.context e && is_redefinition r.role) ≡ false
+  other_context : AreReferencesOf refs e from upto → (i : ℕ) (r : Reference) → upto ≤ i → slice_get refs i ≡ Some r →
+      (nat_eq r.context e && is_redefinition r.role) ≡ false
   other_context own i r le at = elim (bool_cases (nat_eq r.context e)) [
     | inl same ↦ absurd (let lt = ((own.own i r at).0 (eq_exact r.context e same)).1 in omega arith)
     | inr other ↦ rw other refl
   ]
 
-  pub first_of_range : (r : Reference) → AreReferencesOf refs e from upto → from ≤ k → k < upto → slice_get refs k ≡ Some r → is_redefinition r.role ≡ true → NoneYet refs from k
+  pub first_of_range : (r : Reference) → AreReferencesOf refs e from upto → from ≤ k → k < upto → slice_get refs k ≡ Some r → is_redefinition r.role ≡ true
+      → NoneYet refs from k
       → Some k ≡ first_in (redefinitions_in refs e)
   first_of_range r own le lt at is none =
       let here : r.context ≡ e = (own.own k r at).1 (le, lt) in
@@ -213,7 +226,8 @@ module _ (files : List StoredFile) (table : List (LinkKey × Outcome)) (e : Elem
   first_told g k [] is = cc
   first_told g k (m ∷ ms) is = let same : m ≡ k = cc in ap (λ (j : ℕ). g (key e.file j) (reading files table)) same
 
-  none_told : {A : Type 0} (g : LinkKey → Lookup (List A)) (ns : List ℕ) → first_in ns ≡ None → from_first g (map (key e.file) ns) (reading files table) ≡ done [] (reading files table)
+  none_told : {A : Type 0} (g : LinkKey → Lookup (List A)) (ns : List ℕ) → first_in ns ≡ None → from_first g (map (key e.file) ns) (reading files table)
+      ≡ done [] (reading files table)
   none_told g [] is = refl
   none_told g (m ∷ ms) is = cc
 
@@ -236,8 +250,10 @@ module _ (files : List StoredFile) (table : List (LinkKey × Outcome)) (e : Elem
       → first_in (redefinitions_in here.references e.index) ≡ None
       → Leaves old (once old) (named_by files Nameless) (names_from (suc n) walked e (reading files table))
   step_none n walked old none off first = elim (bool_cases (is_feature (element_in files e).kind)) [
-    | inl feature ↦ subst (Leaves old (once old) (named_by files Nameless)) (sym (none_feature n walked none off first feature)) (leaves_file old (named_by files Nameless) _ refl (inl refl) three refl)
-    | inr other ↦ subst (Leaves old (once old) (named_by files Nameless)) (sym (none_other n walked none off other)) (leaves_file old (named_by files Nameless) _ refl (inl refl) two refl)
+    | inl feature ↦ subst (Leaves old (once old) (named_by files Nameless)) (sym (none_feature n walked none off first feature)) (leaves_file old
+        (named_by files Nameless) _ refl (inl refl) three refl)
+    | inr other ↦ subst (Leaves old (once old) (named_by files Nameless)) (sym (none_other n walked none off other)) (leaves_file old
+        (named_by files Nameless) _ refl (inl refl) two refl)
   ]
     where
       two : (f : Fact LinkKey LinkFact) → IsMember (file_look ∷ file_look ∷ []) f → IsMember (file_look ∷ []) f
@@ -253,7 +269,11 @@ module _ (files : List StoredFile) (table : List (LinkKey × Outcome)) (e : Elem
   step_goes : (n : ℕ) (walked : List ElementNo) (k : ℕ) → not (is_nil (own_names files e)) ≡ false → is_in e walked ≡ false
       → is_feature (element_in files e).kind ≡ true → first_in (redefinitions_in here.references e.index) ≡ Some k
       → names_from (suc n) walked e (reading files table)
-      ≡ record { step = (after_first n walked k (reading files table)).step; looks = file_look ∷ file_look ∷ file_look ∷ (after_first n walked k (reading files table)).looks }
+      ≡ record {
+        step = (after_first n walked k (reading files table)).step;
+        looks = file_look ∷ file_look ∷ file_look ∷ (after_first n walked k
+            (reading files table)).looks;
+      }
   unfolding names_from
   step_goes n walked k none off feature first =
       let told = first_told (λ r. target r >>= from_first (names_from n (e ∷ walked))) k numbers (ap first_in numbers_same ∙ first) in
@@ -273,7 +293,8 @@ module _ (files : List StoredFile) (table : List (LinkKey × Outcome)) (e : Elem
     pub left : (f : Fact LinkKey LinkFact) → IsMember rest.looks f → IsMember whole.looks f
 
   after_read : (n : ℕ) (walked : List ElementNo) (k : ℕ) (read : Read) (step : Step LinkKey (List ElementNo)) → step ≡ step_of read
-      → IsRest (rest_of files table n walked e (stride_of read)) (then_step (target (key e.file k) (reading files table)) (λ ts. from_first (names_from n (e ∷ walked)) ts (reading files table)) step)
+      → IsRest (rest_of files table n walked e (stride_of read)) (then_step (target (key e.file k) (reading files table)) (λ ts. from_first (names_from n
+      (e ∷ walked)) ts (reading files table)) step)
       (target (key e.file k) (reading files table)).looks
   after_read n walked k (reads.Open r) step is = rw is (record { step = refl; all = λ f m. inl m; some = λ f m. m; left = λ f m. absurd m })
   after_read n walked k reads.Nowhere step is =
@@ -291,7 +312,8 @@ module _ (files : List StoredFile) (table : List (LinkKey × Outcome)) (e : Elem
 
   pub step_read : (n : ℕ) (walked : List ElementNo) (old new : Noted) (k : ℕ) → not (is_nil (own_names files e)) ≡ false → is_in e walked ≡ false
       → is_feature (element_in files e).kind ≡ true → first_in (redefinitions_in here.references e.index) ≡ Some k
-      → (read : Read) → (target (key e.file k) (reading files table)).step ≡ step_of read → new ≡ noted [] (target (key e.file k) (reading files table)).looks (once old)
+      → (read : Read) → (target (key e.file k) (reading files table)).step ≡ step_of read → new ≡ noted [] (target (key e.file k)
+      (reading files table)).looks (once old)
       → Leaves old new (rest_of files table n walked e (stride_of read)) (names_from (suc n) walked e (reading files table))
   step_read n walked old new k none off feature first read is grown =
       let goes = step_goes n walked k none off feature first in
@@ -301,7 +323,17 @@ module _ (files : List StoredFile) (table : List (LinkKey × Outcome)) (e : Elem
       subst (λ (m : Noted). Leaves old m rest (names_from (suc n) walked e (reading files table))) (sym grown)
       (subst (Leaves old (noted [] (file_look ∷ seen) old) rest) (sym goes)
       (leaves_noted old (file_look ∷ seen) rest _ same.step
-      (λ f. elim [ inl is ↦ inl (inl is) | inr m ↦ elim m [ inl is ↦ inl (inl is) | inr l ↦ elim l [ inl is ↦ inl (inl is) | inr a ↦ elim (same.all f a) [ inl b ↦ inl (inr b) | inr c ↦ inr c ] ] ] ])
+      (λ f. elim [
+        | inl is ↦ inl (inl is)
+        | inr m ↦ elim m [
+          | inl is ↦ inl (inl is)
+          | inr l ↦ elim l [
+            | inl is ↦ inl (inl is)
+            | inr a ↦ elim (same.all f a)
+                [ inl b ↦ inl (inr b) | inr c ↦ inr c ]
+          ]
+        ]
+      ])
       (λ f. elim [ inl is ↦ inl is | inr m ↦ inr (inr (inr (same.some f m))) ])
       (λ f m. inr (inr (inr (same.left f m))))))
 
@@ -328,15 +360,18 @@ passed_alike w (suc n) us ws same e =
     let f_us : LinkKey → Lookup (List (List ℕ)) = λ r. target r >>= from_first (names_from n (e ∷ us)) in
     let f_ws : LinkKey → Lookup (List (List ℕ)) = λ r. target r >>= from_first (names_from n (e ∷ ws)) in
     let each : (r : LinkKey) → f_us r w ≡ f_ws r w =
-    λ r. then_alike w (target r) (from_first (names_from n (e ∷ us))) (from_first (names_from n (e ∷ ws))) (first_alike w (names_from n (e ∷ us)) (names_from n (e ∷ ws)) inner) in
+    λ r. then_alike w (target r) (from_first (names_from n (e ∷ us))) (from_first (names_from n (e ∷ ws))) (first_alike w (names_from n (e ∷ us))
+    (names_from n (e ∷ ws)) inner) in
     let on : (redefinitions e >>= from_first f_us) w ≡ (redefinitions e >>= from_first f_ws) w =
     then_alike w (redefinitions e) (from_first f_us) (from_first f_ws) (first_alike w f_us f_ws each) in
     let next : cond (is_in e us) (done []) (redefinitions e >>= from_first f_us) w ≡ cond (is_in e ws) (done []) (redefinitions e >>= from_first f_ws) w =
     subst (λ b. cond (is_in e us) (done []) (redefinitions e >>= from_first f_us) w ≡ cond b (done []) (redefinitions e >>= from_first f_ws) w) (same e)
     (cond_alike w (is_in e us) (done []) (redefinitions e >>= from_first f_us) (redefinitions e >>= from_first f_ws) on) in
     then_alike w (element e)
-    (λ (x : Element). cond (not (is_nil (declared_names x.short x.name))) (done (declared_names x.short x.name)) (cond (is_in e us) (done []) (redefinitions e >>= from_first f_us)))
-    (λ (x : Element). cond (not (is_nil (declared_names x.short x.name))) (done (declared_names x.short x.name)) (cond (is_in e ws) (done []) (redefinitions e >>= from_first f_ws)))
+    (λ (x : Element). cond (not (is_nil (declared_names x.short x.name))) (done (declared_names x.short x.name)) (cond (is_in e us) (done [])
+    (redefinitions e >>= from_first f_us)))
+    (λ (x : Element). cond (not (is_nil (declared_names x.short x.name))) (done (declared_names x.short x.name)) (cond (is_in e ws) (done [])
+    (redefinitions e >>= from_first f_ws)))
     (λ x. cond_alike w (not (is_nil (declared_names x.short x.name))) (done (declared_names x.short x.name))
     (cond (is_in e us) (done []) (redefinitions e >>= from_first f_us)) (cond (is_in e ws) (done []) (redefinitions e >>= from_first f_ws)) next)
 
@@ -354,20 +389,24 @@ leaves_on old mid new last rest whole a b = record {
 }
 
 -- one step more of the way
-pub way_on : (files : List StoredFile) (table : List (LinkKey × Outcome)) (e : ElementNo) (walked ws : List ElementNo) (old mid new : Noted) (whole : Names) (k n : ℕ) (stride : Stride)
+pub way_on : (files : List StoredFile) (table : List (LinkKey × Outcome)) (e : ElementNo) (walked ws : List ElementNo) (old mid new : Noted) (whole : Names)
+    (k n : ℕ) (stride : Stride)
     → ((t : ElementNo) → is_in t walked ≡ is_in t ws) → k ≡ suc n → Leaves old mid (names_from k ws e (reading files table)) whole
-    → ((m : ℕ) → Leaves mid new (rest_of files table m walked e stride) (names_from (suc m) walked e (reading files table))) → Leaves old new (rest_of files table n walked e stride) whole
+    → ((m : ℕ) → Leaves mid new (rest_of files table m walked e stride) (names_from (suc m) walked e (reading files table))) → Leaves old new
+    (rest_of files table n walked e stride) whole
 way_on files table e walked ws old mid new whole k n stride same steps a b =
     let w = reading files table in
     let is : names_from (suc n) walked e w ≡ names_from k ws e w = passed_alike w (suc n) walked ws same e ∙ ap (λ (j : ℕ). names_from j ws e w) (sym steps) in
-    leaves_on old mid new (rest_of files table n walked e stride) (names_from k ws e w) whole a (subst (λ (x : Names). Leaves mid new (rest_of files table n walked e stride) x) is (b n))
+    leaves_on old mid new (rest_of files table n walked e stride) (names_from k ws e w) whole a (subst (λ (x : Names). Leaves mid new
+    (rest_of files table n walked e stride) x) is (b n))
 
 pub no_steps : (w : LinkWorld) (ws : List ElementNo) (e : ElementNo) → names_from 0 ws e w ≡ done [] w
 unfolding names_from
 no_steps w ws e = refl
 
 -- an element that was lent is the one in the models
-pub own_is : (files : List StoredFile) (e : ElementNo) (d : Data) (x : Element) → model_in (slice_get files e.file.0) ≡ d → slice_get d.elements e.index ≡ Some x → element_in files e ≡ x
+pub own_is : (files : List StoredFile) (e : ElementNo) (d : Data) (x : Element) → model_in (slice_get files e.file.0) ≡ d → slice_get d.elements e.index
+    ≡ Some x → element_in files e ≡ x
 own_is files e d x there at = ap (λ (m : Data). get_or m.elements e.index root_element) there ∙ found d.elements e.index at
   where
     found : (es : List Element) (i : ℕ) → slice_get es i ≡ Some x → get_or es i root_element ≡ x
@@ -378,5 +417,7 @@ own_is files e d x there at = ap (λ (m : Data). get_or m.elements e.index root_
 pub done_same : {A : Type 0} (x y : A) → ready x ≡ ready y → x ≡ y
 done_same x y e = cc
 
-pub feature_of : (files : List StoredFile) (e : ElementNo) (d : Data) (k : ℕ) → model_in (slice_get files e.file.0) ≡ d → IsModel d → first_in (redefinitions_in d.references e.index) ≡ Some k → is_feature (element_in files e).kind ≡ true
-feature_of files e d k there model first = ap (λ (m : Data). is_feature (get_or m.elements e.index root_element).kind) there ∙ redefines_feature d model e.index k first
+pub feature_of : (files : List StoredFile) (e : ElementNo) (d : Data) (k : ℕ) → model_in (slice_get files e.file.0) ≡ d → IsModel d → first_in
+    (redefinitions_in d.references e.index) ≡ Some k → is_feature (element_in files e).kind ≡ true
+feature_of files e d k there model first = ap (λ (m : Data). is_feature (get_or m.elements e.index root_element).kind) there
+    ∙ redefines_feature d model e.index k first

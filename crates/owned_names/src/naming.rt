@@ -112,8 +112,8 @@ pub fn naming_of(
 ) -> Result<Naming, NoMemory>
     requires stands { StandsIn view.now.models.now element }
     requires links { HasLinks view.now }
-    ensures names { IfOk result (λ naming. Leaves notes.old notes.new (named_by view.now.models.now naming)
-        (names.names element (read_by view.now))) }
+    ensures names { IfOk result (λ naming. Leaves notes.old notes.new
+        (named_by view.now.models.now naming) (names.names element (read_by view.now))) }
     ensures stands { IfOk result (IsNamingThere view.now.models.now) }
 {
     let mut walked = Passed::new(alloc);

@@ -1,4 +1,4 @@
-use Rattle.std.proofs.Common.{refl, sym, ◌∙◌, ap, subst, [], ◌∷◌, inl}
+use Rattle.std.proofs.Common.{refl, sym, subst, [], ◌∷◌, inl}
 use Rattle.demand_core.specs.Computation.{joined}
 use Rattle.demand_core.specs.declared.looks.Fact.TheVariants.{Outer}
 use Rattle.element_store.specs.Condition.{members_of}
@@ -28,8 +28,11 @@ returns c =
     let there = done_same _ _ c.in_ok-model.ensures.read.step in
     let start = gains_of c.gains.inside.found c.model.new.notes in
     subst (λ z. Gained (effective x c.args.at w) z c.take_redefining.new.gains) c.gains.view_is
-    (gained_read w (model f) (λ m. joined (effective_part m f x) (members_of m c.args.at.index)) d [] c.gains.inside.found c.gains.inside.notes c.model.new.notes c.take_redefining.new.gains c.in_ok-model.ensures.read
-    (gained_same (Outer (File f)) (joined (effective_part d f x) (members_of d c.args.at.index) w) (joined (effective_part d f x) (redefining_of d c.args.at.index) w) start c.take_redefining.new.gains
+    (gained_read w (model f) (λ m. joined (effective_part m f x)
+    (members_of m c.args.at.index)) d [] c.gains.inside.found c.gains.inside.notes c.model.new.notes c.take_redefining.new.gains c.in_ok-model.ensures.read
+    (gained_same (Outer (File f)) (joined (effective_part d f x) (members_of d c.args.at.index) w) (joined (effective_part d f x)
+    (redefining_of d c.args.at.index) w) start c.take_redefining.new.gains
     (skipped files c.args.view.now.table.now f d there c.in_ok-model.ensures.whole x c.args.at.index)
-    (subst (λ (n : Noted). IsMember n.looks (Outer (File f))) (sym c.in_ok-model.ensures.read.noted) (all_now same_fact fact_is_exact (Outer (File f) ∷ []) c.gains.inside.notes.looks (Outer (File f)) (inl refl)))
+    (subst (λ (n : Noted). IsMember n.looks (Outer (File f))) (sym c.in_ok-model.ensures.read.noted) (all_now same_fact fact_is_exact (Outer
+    (File f) ∷ []) c.gains.inside.notes.looks (Outer (File f)) (inl refl)))
     c.in_ok-take_redefining.ensures))

@@ -1,4 +1,4 @@
-use Rattle.std.proofs.Common.{refl, sym, ◌∙◌, ap, subst, append-nil, ◌++◌}
+use Rattle.std.proofs.Common.{refl, sym, ap, subst, append-nil, ◌++◌}
 use Rattle.element_store.specs.declared.numbers.ElementNo.{ElementNo}
 use Rattle.link_model.specs.declared.keys.Hit.{Hit}
 use Rattle.link_model.specs.Names.{names, hit_named}
@@ -19,9 +19,11 @@ returns-in_ok-wait_on-in-Open c =
     let e : ElementNo = record { file = c.args.member.file; index = c.args.owned } in
     let h : Hit = record { member = c.args.member; element = e } in
     let found = c.gains.inside.found in
-    subst (λ z. Gained (hit_named c.args.name.now c.args.member.file c.args.member.index (Owned c.args.owned) w) z (gains_of found c.wait_on.new.self)) c.gains.view_is
+    subst (λ z. Gained (hit_named c.args.name.now c.args.member.file c.args.member.index (Owned c.args.owned) w) z
+    (gains_of found c.wait_on.new.self)) c.gains.view_is
     (named_taken files c.args.name.now h w (names e) (Open c.in-Open.reference) found found c.gains.inside.notes c.naming_of.new.notes c.wait_on.new.self
-    (subst (λ n. Leaves c.gains.inside.notes c.naming_of.new.notes (named_by files n) (names e w)) c.in-Open.is c.in_ok-reference.ensures.names) (sym (append-nil found)) c.in_ok-wait_on-in-Open.ensures)
+    (subst (λ n. Leaves c.gains.inside.notes c.naming_of.new.notes (named_by files n) (names e w)) c.in-Open.is c.in_ok-reference.ensures.names) (sym
+    (append-nil found)) c.in_ok-wait_on-in-Open.ensures)
 
 pub returns-in-Nameless : goal.returns-in-Nameless
 returns-in-Nameless c =
@@ -30,9 +32,11 @@ returns-in-Nameless c =
     let e : ElementNo = record { file = c.args.member.file; index = c.args.owned } in
     let h : Hit = record { member = c.args.member; element = e } in
     let found = c.gains.inside.found in
-    subst (λ z. Gained (hit_named c.args.name.now c.args.member.file c.args.member.index (Owned c.args.owned) w) z (gains_of found c.naming_of.new.notes)) c.gains.view_is
+    subst (λ z. Gained (hit_named c.args.name.now c.args.member.file c.args.member.index (Owned c.args.owned) w) z
+    (gains_of found c.naming_of.new.notes)) c.gains.view_is
     (named_taken files c.args.name.now h w (names e) Nameless found found c.gains.inside.notes c.naming_of.new.notes c.naming_of.new.notes
-    (subst (λ n. Leaves c.gains.inside.notes c.naming_of.new.notes (named_by files n) (names e w)) c.in-Nameless.is c.in_ok-reference.ensures.names) (sym (append-nil found)) refl)
+    (subst (λ n. Leaves c.gains.inside.notes c.naming_of.new.notes (named_by files n) (names e w)) c.in-Nameless.is c.in_ok-reference.ensures.names) (sym
+    (append-nil found)) refl)
 
 pub returns-in_ok-take_if-in-By : goal.returns-in_ok-take_if-in-By
 returns-in_ok-take_if-in-By c =

@@ -1,4 +1,4 @@
-use Rattle.std.proofs.Common.{◌≡◌, ◌∙◌, ap, [], ◌++◌, subst, sym}
+use Rattle.std.proofs.Common.{◌≡◌, ◌∙◌, ap, [], ◌++◌}
 use Rattle.link_model.specs.Names.{member_element}
 use Rattle.link_walk.specs.Calls.{read_by}
 use Rattle.link_walk.specs.Marks.{marked_all, same_fact}

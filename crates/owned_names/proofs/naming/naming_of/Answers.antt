@@ -1,5 +1,4 @@
-use Rattle.std.proofs.Common.{◌≡◌, ◌-◌, ◌+◌, refl, sym, ◌∙◌, ap, subst, [], ◌∷◌, arith}
-use Rattle.demand_core.specs.Computation.{done}
+use Rattle.std.proofs.Common.{◌-◌, ◌+◌, ap, subst, [], ◌∷◌, arith}
 use Rattle.link_model.specs.Keys.{is_in}
 use Rattle.link_model.specs.Names.{names}
 use Rattle.link_model.specs.Readers.{most}
@@ -22,11 +21,17 @@ loop-step-preserved c =
     let walked = c.loop-step.walked in
     let at = c.loop-step.at in
     let n = most - (c.loop-step._step + 1) in
-    let went = way_on files table at walked c.loop-step.invariant.leaves.0 c.args.notes.now c.loop-step.notes c.stride_from.new.notes whole (most - c.loop-step._step) n c.in_ok-naming.field-0
+    let went = way_on files table at walked c.loop-step.invariant.leaves.0 c.args.notes.now c.loop-step.notes c.stride_from.new.notes whole
+    (most - c.loop-step._step) n c.in_ok-naming.field-0
     c.loop-step.invariant.leaves.1 (omega (arith, c.loop-step-test.true)) c.loop-step.invariant.leaves.2 c.in_ok-naming.ensures.leaves in
     record {
       stands = subst (LeadsOn files) c.in-Goes.is c.in_ok-naming.ensures.stands;
-      leaves = (at ∷ walked, c.in_ok-pass-in-Goes.ensures, subst (λ s. Leaves c.args.notes.now c.stride_from.new.notes (rest_of files table n walked at s) whole) c.in-Goes.is went);
+      leaves = (
+        at ∷ walked,
+        c.in_ok-pass-in-Goes.ensures,
+        subst (λ s. Leaves c.args.notes.now c.stride_from.new.notes
+            (rest_of files table n walked at s) whole) c.in-Goes.is went,
+      );
     }
 
 pub returns-in-Ends-clause-names : goal.returns-in-Ends-clause-names
@@ -37,7 +42,8 @@ returns-in-Ends-clause-names c =
     let walked = c.loop-step.walked in
     let at = c.loop-step.at in
     let n = most - (c.loop-step._step + 1) in
-    let went = way_on files table at walked c.loop-step.invariant.leaves.0 c.args.notes.now c.loop-step.notes c.stride_from.new.notes whole (most - c.loop-step._step) n c.in_ok-naming.field-0
+    let went = way_on files table at walked c.loop-step.invariant.leaves.0 c.args.notes.now c.loop-step.notes c.stride_from.new.notes whole
+    (most - c.loop-step._step) n c.in_ok-naming.field-0
     c.loop-step.invariant.leaves.1 (omega (arith, c.loop-step-test.true)) c.loop-step.invariant.leaves.2 c.in_ok-naming.ensures.leaves in
     subst (λ s. Leaves c.args.notes.now c.stride_from.new.notes (rest_of files table n walked at s) whole) c.in-Ends.is went
 
@@ -48,8 +54,10 @@ returns-in-Ends-2-clause-names c =
     let whole = names c.args.element (read_by c.args.view.now) in
     let walked = c.loop-step.walked in
     let at = c.loop-step.at in
-    let went = way_on files table at walked c.loop-step.invariant.leaves.0 c.args.notes.now c.loop-step.notes c.stride_from-2.new.notes whole (most - c.loop-step._step) (most - (c.loop-step._step + 1)) c.in_ok-naming-2.field-0
-    c.loop-step.invariant.leaves.1 (omega (arith, c.loop-step-test.false, c.loop-step.auto._step-end)) c.loop-step.invariant.leaves.2 c.in_ok-naming-2.ensures.leaves in
+    let went = way_on files table at walked c.loop-step.invariant.leaves.0 c.args.notes.now c.loop-step.notes c.stride_from-2.new.notes whole
+    (most - c.loop-step._step) (most - (c.loop-step._step + 1)) c.in_ok-naming-2.field-0
+    c.loop-step.invariant.leaves.1 (omega
+    (arith, c.loop-step-test.false, c.loop-step.auto._step-end)) c.loop-step.invariant.leaves.2 c.in_ok-naming-2.ensures.leaves in
     subst (λ s. Leaves c.args.notes.now c.stride_from-2.new.notes (rest_of files table (most - (c.loop-step._step + 1)) walked at s) whole) c.in-Ends-2.is went
 
 pub returns-clause-names : goal.returns-clause-names
@@ -61,7 +69,9 @@ returns-clause-names c =
     let walked = c.loop-step.walked in
     let at = c.loop-step.at in
     let next = c.in-Goes-2.field-0 in
-    let went = way_on files table at walked c.loop-step.invariant.leaves.0 c.args.notes.now c.loop-step.notes c.stride_from-2.new.notes whole (most - c.loop-step._step) 0 c.in_ok-naming-2.field-0
-    c.loop-step.invariant.leaves.1 (omega (arith, c.loop-step-test.false, c.loop-step.auto._step-end)) c.loop-step.invariant.leaves.2 c.in_ok-naming-2.ensures.leaves in
+    let went = way_on files table at walked c.loop-step.invariant.leaves.0 c.args.notes.now c.loop-step.notes c.stride_from-2.new.notes whole
+    (most - c.loop-step._step) 0 c.in_ok-naming-2.field-0
+    c.loop-step.invariant.leaves.1 (omega
+    (arith, c.loop-step-test.false, c.loop-step.auto._step-end)) c.loop-step.invariant.leaves.2 c.in_ok-naming-2.ensures.leaves in
     let goes = subst (λ s. Leaves c.args.notes.now c.stride_from-2.new.notes (rest_of files table 0 walked at s) whole) c.in-Goes-2.is went in
     subst (λ (r : Names). Leaves c.args.notes.now c.stride_from-2.new.notes r whole) (no_steps w (at ∷ walked) next) goes
