@@ -1,6 +1,6 @@
 -- Tasks that are left: the parts of an asking, one after another.
 use Rattle.std.proofs.Common.{◌≡◌, ℕ, ◌+◌, ◌*◌, ◌-◌, ◌^◌, ◌<◌, ◌≤◌, Bool, true, false, cond, List, [], ◌∷◌, ◌++◌, length, get_or, take, refl, sym, ◌∙◌, ap, subst, inl, inr, arith, append_assoc, append-nil, length-append, take-suc, add-one}
-use Rattle.std.specs.Prelude.{◌⊎◌, ◌||◌, not, Option, None, Some, zero, suc}
+use Rattle.std.specs.Prelude.{◌⊎◌, ◌||◌, not, Option, None, Some, suc}
 use Rattle.std.proofs.lemmas.List.{take_all}
 use Rattle.std.proofs.Math.Nat.{suc-mul, one-le-pow, pow-succ', pow-le-pow_right, mul-lt-mul_of_pos_right}
 use Rattle.linker_base.proofs.Cases.{bool_cases}
@@ -17,7 +17,6 @@ use Rattle.demand_core.proofs.LoopLaws.{join_assoc, join_first, join_last}
 use Rattle.demand_core.proofs.PartLaws.{shows_nothing, shows_join, shows_then, admits_left, admits_right, admits_first, admits_then}
 use Rattle.demand_core.proofs.SearchLaws.{is_asked}
 use Rattle.element_store.specs.declared.numbers.ElementNo.{ElementNo}
-use Rattle.element_store.specs.declared.numbers.ImportNo.{ImportNo}
 use Rattle.element_store.specs.declared.models.StoredFile.{StoredFile}
 use Rattle.element_store.specs.BaseRules.{StandsIn}
 use Rattle.link_model.specs.declared.keys.LinkKey.{LinkKey}
@@ -25,10 +24,10 @@ use Rattle.link_model.specs.declared.keys.LinkFact.{LinkFact}
 use Rattle.link_model.specs.declared.keys.Hit.{Hit}
 use Rattle.link_model.specs.Keys.{same_element, same_key, key_is_exact, element_is_exact, is_in}
 use Rattle.link_model.specs.Outside.{Library}
-use Rattle.link_model.specs.Readers.{Lookup, LinkWorld, most, is_nil, listed}
-use Rattle.link_model.specs.Imports.{visible_from, visible, imported, inside}
+use Rattle.link_model.specs.Readers.{Lookup, LinkWorld, most, is_nil}
+use Rattle.link_model.specs.Imports.{visible_from, visible, inside}
 use Rattle.link_walk.specs.Gained.{Gained}
-use Rattle.link_walk.specs.Marks.{marked_all, same_fact}
+use Rattle.link_walk.specs.Marks.{same_fact}
 use Rattle.link_walk.specs.Noted.{Noted, noted, waits_of, Reads, Tells, TellsStep}
 use Rattle.link_walk.proofs.GainLaws.{plus, gained_asked}
 use Rattle.link_walk.proofs.MarkLaws.{fact_is_exact, all_kept, all_now, all_new}
@@ -75,7 +74,18 @@ module _ (lib : Library) (x : List ℕ) (base : ℕ) (files : List StoredFile) (
   defers_equal n a b old new e h = subst (λ z. Here n z old new) e h
 
   pub defers_wider : (m n : ℕ) (a : HitAsked) (old new : HuntTrail) → m ≤ n → Here m a old new → Here n a old new
-  defers_wider m n a old new le h = record { added = h.added; grown = h.grown; kept = h.kept; shown = h.shown; only = h.only; pending = h.pending; inside = h.inside; count = (let c = h.count in omega arith) }
+  defers_wider m n a old new le h =
+      record {
+        added = h.added;
+        grown = h.grown;
+        kept = h.kept;
+        shown = h.shown;
+        only = h.only;
+        pending = h.pending;
+        inside = h.inside;
+        count =
+            (let c = h.count in omega arith);
+      }
 
   pub defers_join : (m n : ℕ) (c d : Lookup (List Hit)) (old mid new : HuntTrail) → Here m (c w) old mid → Here n (d w) mid new → Here (m + n)
       (join c d w) old new
@@ -96,7 +106,8 @@ module _ (lib : Library) (x : List ℕ) (base : ℕ) (files : List StoredFile) (
       | inr right ↦ admits_right w c d y (h.pending t y right a)
     ];
     inside = λ t m. elim (member_cases g.added h.added t m) [ inl left ↦ g.inside t left | inr right ↦ h.inside t right ];
-    count = (let long : length (g.added ++ h.added) ≡ length g.added + length h.added = length-append g.added h.added in let a = g.count in let b = h.count in omega arith);
+    count = (let long : length (g.added ++ h.added)
+        ≡ length g.added + length h.added = length-append g.added h.added in let a = g.count in let b = h.count in omega arith);
   }
 
   -- one part more
@@ -108,9 +119,9 @@ module _ (lib : Library) (x : List ℕ) (base : ℕ) (files : List StoredFile) (
       let long : length (take i xs ++ d ∷ []) ≡ length (take i xs) + 1 = length-append (take i xs) (d ∷ []) in
       subst (λ ys. Here (length ys) (joined f ys w) old new) (sym more)
       (defers_equal (length (take i xs ++ d ∷ [])) (join (joined f (take i xs)) (f d) w) (joined f (take i xs ++ d ∷ []) w) old new (sym (joined_last w f
-          (take i xs) d))
+      (take i xs) d))
       (subst (λ n. Here n (join (joined f (take i xs)) (f d) w) old new) (sym long) (defers_join (length (take i xs)) 1 (joined f (take i xs))
-          (f d) old mid new g h)))
+      (f d) old mid new g h)))
 
   -- after the last part
   pub defers_all : {A : Type 0} (f : A → Lookup (List Hit)) (xs : List A) (i : ℕ) (old new : HuntTrail) → length xs ≤ i → Here (length (take i xs))
@@ -160,7 +171,12 @@ module _ (lib : Library) (x : List ℕ) (base : ℕ) (files : List StoredFile) (
   -- a task is added
   pub defers_task : (recursive all_members : Bool) (e : ElementNo) (old : HuntTrail) → StandsIn files e
       → Here 1 (asks_task lib x base (record { excluded = inner; recursive = recursive; all = all_members; namespace = e }) w) old
-          (record { nodes = old.nodes ++ record { excluded = inner; recursive = recursive; all = all_members; namespace = e } ∷ []; found = old.found; waits = old.waits; looks = old.looks })
+      (record {
+        nodes = old.nodes ++ record { excluded = inner; recursive = recursive; all = all_members; namespace = e } ∷ [];
+        found = old.found;
+        waits = old.waits;
+        looks = old.looks;
+      })
   defers_task recursive all_members e old m =
       let t : Task = record { excluded = inner; recursive = recursive; all = all_members; namespace = e } in
       record {
@@ -175,13 +191,23 @@ module _ (lib : Library) (x : List ℕ) (base : ℕ) (files : List StoredFile) (
       }
     where
       same_known : (y : HitPart) → IsKnown old y → IsKnown
-          (record { nodes = old.nodes ++ record { excluded = inner; recursive = recursive; all = all_members; namespace = e } ∷ []; found = old.found; waits = old.waits; looks = old.looks }) y
+          (record {
+            nodes = old.nodes ++ record { excluded = inner; recursive = recursive; all = all_members; namespace = e } ∷ [];
+            found = old.found;
+            waits = old.waits;
+            looks = old.looks;
+          }) y
       same_known (Finds h) k = k
       same_known (Awaits q) k = k
       same_known (LooksAt f) k = k
 
       known_same : (y : HitPart) → IsKnown
-          (record { nodes = old.nodes ++ record { excluded = inner; recursive = recursive; all = all_members; namespace = e } ∷ []; found = old.found; waits = old.waits; looks = old.looks }) y → IsKnown old y
+          (record {
+            nodes = old.nodes ++ record { excluded = inner; recursive = recursive; all = all_members; namespace = e } ∷ [];
+            found = old.found;
+            waits = old.waits;
+            looks = old.looks;
+          }) y → IsKnown old y
       known_same (Finds h) k = k
       known_same (Awaits q) k = k
       known_same (LooksAt f) k = k
@@ -247,7 +273,7 @@ module _ (lib : Library) (x : List ℕ) (base : ℕ) (files : List StoredFile) (
       first_same : (step : Step LinkKey (List Hit)) (looks : List (Fact LinkKey LinkFact)) (waits : List LinkKey) (found : List Hit)
           → IsStep found waits step → (waits ≡ [] → found ≡ [] → ⊥)
           → IsStep found waits (then_step (record { step = step; looks = looks }) (λ hs. f hs w) step).step × ((then_step
-              (record { step = step; looks = looks }) (λ hs. f hs w) step).looks ≡ looks)
+          (record { step = step; looks = looks }) (λ hs. f hs w) step).looks ≡ looks)
       first_same (Done []) looks [] [] s some = absurd (some refl refl)
       first_same (Done []) looks [] (h ∷ hs) s some = absurd (s.left h (inl refl))
       first_same (Done (y ∷ ys)) looks [] found s some =
@@ -313,7 +339,7 @@ module _ (lib : Library) (x : List ℕ) (base : ℕ) (files : List StoredFile) (
           (hunt_of tasks found old) (hunt_of tasks found mid)
       by_step (Done xs) is s =
           defers_after lib x base files w inner n c (joined f) [] (hunt_of tasks found old) (hunt_of tasks found mid) (hunt_of tasks found mid) (is
-              ∙ ap Done s) (looked_tells (c w) None tasks found old mid h)
+          ∙ ap Done s) (looked_tells (c w) None tasks found old mid h)
           (defers_none lib x base files w inner n (hunt_of tasks found mid))
       by_step (Waits ks) is s = defers_waits lib x base files w inner n c (joined f) ks (hunt_of tasks found old) (hunt_of tasks found mid) is (looked_tells
           (c w) None tasks found old mid h)
@@ -325,14 +351,14 @@ module _ (lib : Library) (x : List ℕ) (base : ℕ) (files : List StoredFile) (
   pub defers_somewhere : {C : Type 0} (n : ℕ) (c : Lookup (List C)) (f : C → Lookup (List Hit)) (e : C) (tasks : List Task) (found : List Hit)
       (old mid : Noted) (new : HuntTrail) → Tells (c w) (Some e) old mid
       → Defers lib x base files w inner n (f e w) (hunt_of tasks found mid) new → Defers lib x base files w inner n ((c >>= joined f) w)
-          (hunt_of tasks found old) new
+      (hunt_of tasks found old) new
   defers_somewhere {C = C} n c f e tasks found old mid new h d = by_step (c w).step refl h.step
     where
       by_step : (step : Step LinkKey (List C)) → (c w).step ≡ step → TellsStep step (Some e) → Defers lib x base files w inner n ((c >>= joined f) w)
           (hunt_of tasks found old) new
       by_step (Done xs) is s =
           defers_after lib x base files w inner n c (joined f) (e ∷ []) (hunt_of tasks found old) (hunt_of tasks found mid) new (is ∙ ap Done s)
-              (looked_tells (c w) (Some e) tasks found old mid h)
+          (looked_tells (c w) (Some e) tasks found old mid h)
           (defers_equal lib x base files w inner n (f e w) (joined f (e ∷ []) w) (hunt_of tasks found mid) new (sym (joined_one f e)) d)
       by_step (Waits ks) is s = absurd (let none : ⊥ = cc in none)
 
@@ -360,7 +386,7 @@ decided_none (v ∷ ws) fs e = cc
 pub task_is : (lib : Library) (x : List ℕ) (base : ℕ) (t : Task) → length t.excluded < base → asks_task lib x base t ≡ cond (is_in t.namespace t.excluded)
     (done [])
     (join (tiers_then lib x base (t.namespace ∷ t.excluded) t.all t.namespace) (cond t.recursive (inside (again_from lib x base
-        (t.namespace ∷ t.excluded)) t.all t.namespace) (done [])))
+    (t.namespace ∷ t.excluded)) t.all t.namespace) (done [])))
 unfolding visible_from
 task_is lib x base t lt = ap (λ k. visible_from lib k x t.excluded t.recursive t.all t.namespace) (one_less base (length t.excluded) lt)
   where
@@ -371,7 +397,7 @@ task_is lib x base t lt = ap (λ k. visible_from lib k x t.excluded t.recursive 
 pub hunt_next : (lib : Library) (x : List ℕ) (base : ℕ) (files : List StoredFile) (w : LinkWorld) (inner : List ElementNo) (n : ℕ) (a : HitAsked) (t : Task)
     (rest : List Task) (old new : HuntTrail) → old.nodes ≡ rest ++ t ∷ [] → IsHunt lib x base w a old
     → Defers lib x base files w inner n (asks_task lib x base t w) (record { nodes = rest; found = old.found; waits = old.waits; looks = old.looks }) new
-        → IsHunt lib x base w a new
+    → IsHunt lib x base w a new
 hunt_next lib x base files w inner n a t rest old new is h d =
     let mine : IsMember old.nodes t = subst (λ z. IsMember z t) (sym is) (member_right rest (t ∷ []) t (inl refl)) in
     let theirs : (u : Task) → IsMember rest u → IsMember old.nodes u = λ u m. subst (λ z. IsMember z u) (sym is) (member_left rest (t ∷ []) u m) in
@@ -454,7 +480,7 @@ weight_alike all inner (t ∷ ts) h =
 pub hunt_less : (lib : Library) (x : List ℕ) (base : ℕ) (files : List StoredFile) (w : LinkWorld) (all : List ElementNo) (n : ℕ) (a : HitAsked) (t : Task)
     (rest : List Task) (old mid new : HuntTrail) → old.nodes ≡ rest ++ t ∷ [] → mid.nodes ≡ rest → IsMember all t.namespace → n < 2 ^ 66
     → (is_in t.namespace t.excluded ≡ true → new ≡ mid) → Defers lib x base files w (t.namespace ∷ t.excluded) n a mid new
-        → weight all new.nodes < weight all old.nodes
+    → weight all new.nodes < weight all old.nodes
 hunt_less lib x base files w all n a t rest old mid new is rests member narrow same d =
     let whole : weight all old.nodes ≡ weight all rest + weight all (t ∷ []) = ap (weight all) is ∙ weight_append all rest (t ∷ []) in
     let some : 1 ≤ (2 ^ 66) ^ off_count same_element t.excluded all = one-le-pow (off_count same_element t.excluded all) (2 ^ 66) (omega arith) in
@@ -465,13 +491,13 @@ hunt_less lib x base files w all n a t rest old mid new is rests member narrow s
       | inr off ↦
           let fewer = off_less same_element element_is_exact t.excluded t.namespace all member off in
           let added : weight all new.nodes ≡ weight all rest + weight all d.added = ap (weight all) (d.grown ∙ ap (λ z. z ++ d.added) rests)
-              ∙ weight_append all rest d.added in
+          ∙ weight_append all rest d.added in
           let alike = weight_alike all (t.namespace ∷ t.excluded) d.added (λ u m. (d.inside u m).0) in
           let few : length d.added < 2 ^ 66 = (let count = d.count in omega arith) in
           let power = power_grows (2 ^ 66) (length d.added) (off_count same_element (t.namespace ∷ t.excluded) all) (off_count same_element t.excluded all)
-              (omega arith) few fewer in
+          (omega arith) few fewer in
           less_some (weight all new.nodes) (weight all old.nodes) (weight all rest) (weight all d.added) (length d.added * (2 ^ 66) ^ off_count same_element
-              (t.namespace ∷ t.excluded) all) ((2 ^ 66) ^ off_count same_element t.excluded all) added whole alike power
+          (t.namespace ∷ t.excluded) all) ((2 ^ 66) ^ off_count same_element t.excluded all) added whole alike power
     ]
   where
     less_all : (new old rest one : ℕ) → new ≡ rest → old ≡ rest + (one + 0) → 1 ≤ one → new < old
@@ -486,9 +512,9 @@ pub tasks_in : (lib : Library) (x : List ℕ) (base : ℕ) (files : List StoredF
     → Defers lib x base files w inner n a mid new → AllTasksStand files new.nodes
 tasks_in lib x base files w inner n a t rest old mid new is rests fits d u m = elim (member_cases rest d.added u (subst (λ z. IsMember z u) (d.grown ∙ ap
     (λ z. z ++ d.added) rests) m)) [
-  | inl left ↦ fits u (subst (λ z. IsMember z u) (sym is) (member_left rest (t ∷ []) u left))
-  | inr right ↦ (d.inside u right).1
-]
+      | inl left ↦ fits u (subst (λ z. IsMember z u) (sym is) (member_left rest (t ∷ []) u left))
+      | inr right ↦ (d.inside u right).1
+    ]
 
 pub task_in : (files : List StoredFile) (t : Task) (rest ts : List Task) → ts ≡ rest ++ t ∷ [] → AllTasksStand files ts → StandsIn files t.namespace
 task_in files t rest ts is fits = fits t (subst (λ z. IsMember z t) (sym is) (member_right rest (t ∷ []) t (inl refl)))
@@ -498,31 +524,31 @@ pub defers_excluded : (lib : Library) (x : List ℕ) (base : ℕ) (files : List 
     → length t.excluded < base → is_in t.namespace t.excluded ≡ true → Defers lib x base files w (t.namespace ∷ t.excluded) n (asks_task lib x base t w) h h
 defers_excluded lib x base files w n t h lt there =
     defers_equal lib x base files w (t.namespace ∷ t.excluded) n (cond (is_in t.namespace t.excluded) (done []) (join (tiers_then lib x base
-        (t.namespace ∷ t.excluded) t.all t.namespace) (cond t.recursive (inside (again_from lib x base (t.namespace ∷ t.excluded)) t.all t.namespace)
-        (done []))) w) (asks_task lib x base t w) h h
+    (t.namespace ∷ t.excluded) t.all t.namespace) (cond t.recursive (inside (again_from lib x base (t.namespace ∷ t.excluded)) t.all t.namespace)
+    (done []))) w) (asks_task lib x base t w) h h
     (ap (λ (c : Lookup (List Hit)). c w) (sym (task_is lib x base t lt)))
     (defers_true lib x base files w (t.namespace ∷ t.excluded) n (is_in t.namespace t.excluded) (done []) (join (tiers_then lib x base
-        (t.namespace ∷ t.excluded) t.all t.namespace) (cond t.recursive (inside (again_from lib x base (t.namespace ∷ t.excluded)) t.all t.namespace)
-        (done []))) h h there
+    (t.namespace ∷ t.excluded) t.all t.namespace) (cond t.recursive (inside (again_from lib x base (t.namespace ∷ t.excluded)) t.all t.namespace)
+    (done []))) h h there
     (defers_none lib x base files w (t.namespace ∷ t.excluded) n h))
 
 -- a task gives its tiers and what is inside
 pub defers_expanded : (lib : Library) (x : List ℕ) (base : ℕ) (files : List StoredFile) (w : LinkWorld) (t : Task) (old mid new : HuntTrail)
     → length t.excluded < base → is_in t.namespace t.excluded ≡ false
     → Defers lib x base files w (t.namespace ∷ t.excluded) (length (imports_at files t.namespace)) (tiers_then lib x base
-        (t.namespace ∷ t.excluded) t.all t.namespace w) old mid
+    (t.namespace ∷ t.excluded) t.all t.namespace w) old mid
     → Defers lib x base files w (t.namespace ∷ t.excluded) (length (members_at files t.namespace)) (cond t.recursive (inside (again_from lib x base
-        (t.namespace ∷ t.excluded)) t.all t.namespace) (done []) w) mid new
+    (t.namespace ∷ t.excluded)) t.all t.namespace) (done []) w) mid new
     → Defers lib x base files w (t.namespace ∷ t.excluded) (width files t) (asks_task lib x base t w) old new
 defers_expanded lib x base files w t old mid new lt off g h =
     let tiers = tiers_then lib x base (t.namespace ∷ t.excluded) t.all t.namespace in
     let more = cond t.recursive (inside (again_from lib x base (t.namespace ∷ t.excluded)) t.all t.namespace) (done []) in
     defers_equal lib x base files w (t.namespace ∷ t.excluded) (width files t) (cond (is_in t.namespace t.excluded) (done []) (join tiers more) w)
-        (asks_task lib x base t w) old new
+    (asks_task lib x base t w) old new
     (ap (λ (c : Lookup (List Hit)). c w) (sym (task_is lib x base t lt)))
     (defers_false lib x base files w (t.namespace ∷ t.excluded) (width files t) (is_in t.namespace t.excluded) (done []) (join tiers more) old new off
     (defers_join lib x base files w (t.namespace ∷ t.excluded) (length (imports_at files t.namespace)) (length
-        (members_at files t.namespace)) tiers more old mid new g h))
+    (members_at files t.namespace)) tiers more old mid new g h))
 
 -- THE CALLS
 steps_are : (l : ℕ) → (most + l) - l ≡ most
@@ -535,29 +561,50 @@ module _ (lib : Library) (x : List ℕ) (files : List StoredFile) (w : LinkWorld
     (empty : IsEmpty start) where
   -- one task is a whole lookup
   single : (recursive every : Bool) (n : ElementNo) → StandsIn files n
-      → new ≡ record { nodes = start.nodes ++ record { excluded = excluded; recursive = recursive; all = every; namespace = n } ∷ []; found = start.found; waits = start.waits; looks = start.looks }
+      → new ≡ record {
+        nodes = start.nodes ++
+            record { excluded = excluded; recursive = recursive; all = every; namespace = n } ∷ [];
+        found = start.found;
+        waits = start.waits;
+        looks =
+            start.looks;
+      }
       → Defers lib x (most + length excluded) files w excluded 1 (asks_task lib x (most + length excluded)
-          (record { excluded = excluded; recursive = recursive; all = every; namespace = n }) w) start new
+      (record { excluded = excluded; recursive = recursive; all = every; namespace = n }) w) start new
   single recursive every n m is =
       subst (λ z. Defers lib x (most + length excluded) files w excluded 1 (asks_task lib x (most + length excluded)
-          (record { excluded = excluded; recursive = recursive; all = every; namespace = n }) w) start z) (sym is)
+      (record { excluded = excluded; recursive = recursive; all = every; namespace = n }) w) start z) (sym is)
       (defers_task lib x (most + length excluded) files w excluded recursive every n start m)
 
   pub hunt_visible : (recursive every : Bool) (n : ElementNo) → StandsIn files n
-      → new ≡ record { nodes = start.nodes ++ record { excluded = excluded; recursive = recursive; all = every; namespace = n } ∷ []; found = start.found; waits = start.waits; looks = start.looks }
+      → new ≡ record {
+        nodes = start.nodes ++
+            record { excluded = excluded; recursive = recursive; all = every; namespace = n } ∷ [];
+        found = start.found;
+        waits = start.waits;
+        looks =
+            start.looks;
+      }
       → IsHunt lib x (most + length excluded) w (visible lib x excluded recursive every n w) new
   hunt_visible recursive every n m is =
       subst (λ k. IsHunt lib x (most + length excluded) w (visible_from lib k x excluded recursive every n w) new) (steps_are (length excluded))
       (hunt_begins lib x (most + length excluded) files w excluded 1 (asks_task lib x (most + length excluded)
-          (record { excluded = excluded; recursive = recursive; all = every; namespace = n }) w) new
+      (record { excluded = excluded; recursive = recursive; all = every; namespace = n }) w) new
       (subst (λ z. Defers lib x (most + length excluded) files w excluded 1 (asks_task lib x (most + length excluded)
-          (record { excluded = excluded; recursive = recursive; all = every; namespace = n }) w) z new) empty (single recursive every n m is)))
+      (record { excluded = excluded; recursive = recursive; all = every; namespace = n }) w) z new) empty (single recursive every n m is)))
 
   tasks_begin : (base n : ℕ) (a : HitAsked) → Defers lib x base files w excluded n a start new → AllTasksStand files new.nodes
   tasks_begin base n a d t m = (d.inside t (subst (λ z. IsMember z t) (d.grown ∙ ap (λ (h : HuntTrail). h.nodes ++ d.added) empty) m)).1
 
   pub tasks_visible : (recursive every : Bool) (n : ElementNo) → StandsIn files n
-      → new ≡ record { nodes = start.nodes ++ record { excluded = excluded; recursive = recursive; all = every; namespace = n } ∷ []; found = start.found; waits = start.waits; looks = start.looks }
+      → new ≡ record {
+        nodes = start.nodes ++
+            record { excluded = excluded; recursive = recursive; all = every; namespace = n } ∷ [];
+        found = start.found;
+        waits = start.waits;
+        looks =
+            start.looks;
+      }
       → AllTasksStand files new.nodes
   tasks_visible recursive every n m is = tasks_begin (most + length excluded) 1 (asks_task lib x (most + length excluded)
       (record { excluded = excluded; recursive = recursive; all = every; namespace = n }) w) (single recursive every n m is)
@@ -570,7 +617,7 @@ module _ (lib : Library) (x : List ℕ) (files : List StoredFile) (w : LinkWorld
       (brings (again_from lib x base excluded) w) start new) → IsHunt lib x (most + length excluded) w (brings (visible lib x excluded) w) new
   hunt_imported brings d =
       subst (λ k. IsHunt lib x (most + length excluded) w (brings (λ recursive every e. visible_from lib k x excluded recursive every e) w) new) (steps_are
-          (length excluded))
+      (length excluded))
       (hunt_begins lib x (most + length excluded) files w excluded 1 (brings (again_from lib x (most + length excluded) excluded) w) new
       (subst (λ z. Defers lib x (most + length excluded) files w excluded 1 (brings (again_from lib x (most + length excluded) excluded) w) z new) empty (d
-          (most + length excluded))))
+      (most + length excluded))))

@@ -54,9 +54,9 @@ pub rest_next : {A B : Type 0} (g : A → List B) (i : ℕ) (xs : List A) (x e :
     → before ++ flat_map g (drop i xs) ≡ whole → now ++ flat_map g (drop (i + 1) xs) ≡ whole
 rest_next g i xs x e before now whole lt is more h =
     let next : drop i xs ≡ x ∷ drop (i + 1) xs = drop-cons xs i e lt ∙ (ap (λ j. get_or xs i e ∷ drop j xs) (sym (add-one i)) ∙ ap (λ y. y ∷ drop
-        (i + 1) xs) (sym is)) in
+    (i + 1) xs) (sym is)) in
     ap (λ s. s ++ flat_map g (drop (i + 1) xs)) more ∙ (append_assoc before (g x) (flat_map g (drop (i + 1) xs)) ∙ (ap (λ ys. before ++ flat_map g ys)
-        (sym next) ∙ h))
+    (sym next) ∙ h))
 
 abbrev pub ready : {A : Type 0} → A → Step LinkKey A
 ready x = Done x
@@ -99,4 +99,4 @@ narrow files are n h = by (slice_get files n.file.0) refl h.1
         let is : s.model ≡ Some h.0 = there in
         let same : model_in (Some s) ≡ h.0 = rw is refl in
         subst (λ (z : Data). length (imports_of z n.index) + length (members_of z n.index) < 2 ^ 66) (sym same) (bound h.0
-            (are.models n.file.0 s h.0 at is).1 n.index)
+        (are.models n.file.0 s h.0 at is).1 n.index)

@@ -15,13 +15,12 @@ use Rattle.element_store.specs.Condition.{members_of, imports_of}
 use Rattle.element_store.specs.BaseRules.{StandsIn, model_of}
 use Rattle.link_model.specs.declared.keys.LinkKey.{LinkKey}
 use Rattle.link_model.specs.declared.keys.LinkFact.{LinkFact}
-use Rattle.link_model.specs.declared.keys.LinkFact.TheVariants.{File}
 use Rattle.link_model.specs.declared.keys.Hit.{Hit}
 use Rattle.link_model.specs.declared.view.View.{View}
 use Rattle.link_model.specs.Keys.{same_element}
 use Rattle.link_model.specs.Outside.{Library, model_in, is_public, library_of}
 use Rattle.link_model.specs.Readers.{Lookup, LinkWorld, is_nil, told, first_of, model}
-use Rattle.link_model.specs.Imports.{own_tiers, brought, import_tier, in_owned, last_written, under_name, visible_from}
+use Rattle.link_model.specs.Imports.{own_tiers, brought, import_tier, in_owned, inside, last_written, under_name, visible_from}
 use Rattle.link_walk.specs.Calls.{read_by}
 use Rattle.link_walk.specs.Noted.{LinkTrail}
 use Rattle.import_walk.specs.declared.hunt.Task.{Task}
@@ -77,6 +76,10 @@ module _ (lib : Library) (x : List ℕ) (base : ℕ) where
   abbrev pub owned_part : List ElementNo → Bool → FileNo → Data → ℕ → Lookup (List Hit)
   owned_part inner all f d k = told (slice_get d.members k)
       (λ m. cond (all || is_public m.visibility) (in_owned (again_from inner) all f m.target) (done []))
+
+  -- what is inside a namespace, where that is asked for
+  abbrev pub inside_if : List ElementNo → Bool → Bool → ElementNo → Lookup (List Hit)
+  inside_if inner asked all n = cond asked (inside (again_from inner) all n) (done [])
 
 -- what the import of that number brings, by what is visible elsewhere
 abbrev pub brings : List ℕ → ImportNo → (Bool → Bool → ElementNo → Lookup (List Hit)) → Lookup (List Hit)

@@ -15,7 +15,7 @@ ghost use Rattle.link_walk.specs.Calls.{ReferenceStands};
 ghost use Rattle.import_walk.specs.Deferred.{AllTasksStand, DefersIn, DefersInside, DefersWhere};
 ghost use Rattle.import_walk.specs.Deferred.{EndsHunt, GivesTask, HasThere, lib_of};
 ghost use Rattle.import_walk.specs.Deferred.{again_from, import_at, shown_import, shown_imports};
-ghost use Rattle.import_walk.specs.Deferred.{tiers_then, owned_part, imports_at, members_at};
+ghost use Rattle.import_walk.specs.Deferred.{inside_if, tiers_then, owned_part, imports_at, members_at};
 ghost use Rattle.import_walk.specs.Deferred.{TargetStandsIn, brings};
 
 use crate::hunt::{Hunt, Task, append_elements};
@@ -380,8 +380,8 @@ fn add_inside_if(
 ) -> Result<(), NoMemory>
     requires stands { StandsIn view.now.models.now of }
     ensures { OnOk result (DefersInside view.now inner.now
-        (length (members_at view.now.models.now of)) (λ lib x base.
-        cond asked (imports.inside (again_from lib x base inner.now) all of) (done []))
+        (length (members_at view.now.models.now of))
+        (λ lib x base. inside_if lib x base inner.now asked all of)
         hunt.old hunt.new) }
 {
     if asked {

@@ -1,4 +1,4 @@
-use Rattle.std.proofs.Common.{sym, subst}
+use Rattle.std.proofs.Common.{subst}
 use Rattle.link_model.specs.Imports.{brought}
 use Rattle.link_model.specs.Outside.{library_of}
 use Rattle.link_model.specs.Readers.{key, model, target}
@@ -21,11 +21,11 @@ returns-in-None g c base =
     let d = c.in_ok-of.of.now in
     let told = subst (λ o. Tells (target (key f i.reference) w) o c.model.new.notes c.target.new.notes) c.in-None.is c.in_ok-target.ensures.told in
     subst (λ z. Defers lib x base files w inner 1 (brought (again_from lib x base inner) x f i w) z
-        (hunt_of c.hunt.inside.tasks.items c.hunt.inside.found c.target.new.notes)) c.hunt.view_is
+    (hunt_of c.hunt.inside.tasks.items c.hunt.inside.found c.target.new.notes)) c.hunt.view_is
     (defers_read lib x base files w inner 1 (model f) (λ m. target (key f i.reference) >>= joined
-        (import_at lib x base inner m i)) d c.hunt.inside.tasks.items c.hunt.inside.found c.hunt.inside.notes c.model.new.notes _ c.in_ok-of.ensures.read
+    (import_at lib x base inner m i)) d c.hunt.inside.tasks.items c.hunt.inside.found c.hunt.inside.notes c.model.new.notes _ c.in_ok-of.ensures.read
     (defers_nowhere lib x base files w inner 1 (target (key f i.reference))
-        (import_at lib x base inner d i) c.hunt.inside.tasks.items c.hunt.inside.found c.model.new.notes c.target.new.notes told))
+    (import_at lib x base inner d i) c.hunt.inside.tasks.items c.hunt.inside.found c.model.new.notes c.target.new.notes told))
 
 pub returns-in_ok-add_target-in-Some : goal.returns-in_ok-add_target-in-Some
 returns-in_ok-add_target-in-Some g c base =
@@ -40,7 +40,8 @@ returns-in_ok-add_target-in-Some g c base =
     let told = subst (λ o. Tells (target (key f i.reference) w) o c.model.new.notes c.target.new.notes) c.in-Some.is c.in_ok-target.ensures.told in
     subst (λ z. Defers lib x base files w inner 1 (brought (again_from lib x base inner) x f i w) z c.add_target.new.hunt) c.hunt.view_is
     (defers_read lib x base files w inner 1 (model f) (λ m. target (key f i.reference) >>= joined
-        (import_at lib x base inner m i)) d c.hunt.inside.tasks.items c.hunt.inside.found c.hunt.inside.notes c.model.new.notes _ c.in_ok-of.ensures.read
+    (import_at lib x base inner m i)) d c.hunt.inside.tasks.items c.hunt.inside.found c.hunt.inside.notes c.model.new.notes _ c.in_ok-of.ensures.read
     (defers_somewhere lib x base files w inner 1 (target (key f i.reference))
-        (import_at lib x base inner d i) c.in-Some.element c.hunt.inside.tasks.items c.hunt.inside.found c.model.new.notes c.target.new.notes c.add_target.new.hunt told
+    (import_at lib x base inner d i) c.in-Some.element c.hunt.inside.tasks.items c.hunt.inside.found c.model.new.notes c.target.new.notes
+    c.add_target.new.hunt told
     (c.in_ok-add_target-in-Some.ensures base)))

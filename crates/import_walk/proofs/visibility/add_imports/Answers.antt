@@ -13,13 +13,13 @@ pub loop-index-preserved : goal.loop-index-preserved
 loop-index-preserved g c base =
     let files = c.args.view.now.models.now in
     defers_next (library_of files) c.args.name.now base files (read_by c.args.view.now) c.args.inner.now (shown_import
-        (library_of files) c.args.name.now base c.args.inner.now c.args.all c.args.file c.args.model.now) c.args.numbers.now c.loop-index.index-index _ _
+    (library_of files) c.args.name.now base c.args.inner.now c.args.all c.args.file c.args.model.now) c.args.numbers.now c.loop-index.index-index _ _
     c.args.hunt.now c.loop-index.hunt c.consider_import.new.hunt c.loop-index-test.true refl (c.loop-index.invariant base)
-        (c.in_ok-consider_import.ensures base)
+    (c.in_ok-consider_import.ensures base)
 
 pub returns : goal.returns
 returns g c base =
     let files = c.args.view.now.models.now in
     defers_all (library_of files) c.args.name.now base files (read_by c.args.view.now) c.args.inner.now (shown_import
-        (library_of files) c.args.name.now base c.args.inner.now c.args.all c.args.file c.args.model.now) c.args.numbers.now c.loop-index.index-index
+    (library_of files) c.args.name.now base c.args.inner.now c.args.all c.args.file c.args.model.now) c.args.numbers.now c.loop-index.index-index
     c.args.hunt.now c.loop-index.hunt (omega (arith, c.loop-index-test.false)) (c.loop-index.invariant base)

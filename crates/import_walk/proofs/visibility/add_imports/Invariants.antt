@@ -10,4 +10,4 @@ abbrev pub invariant-loop-index : goal.invariant-loop-index
 invariant-loop-index g l = (base : ℕ) → Defers (library_of (files_of l.fn.view)) l.name base (files_of l.fn.view) (read_by l.fn.view) l.inner (length
     (take l.index-index l.numbers))
     (joined (shown_import (library_of (files_of l.fn.view)) l.name base l.inner l.fn.all l.fn.file l.model) (take l.index-index l.numbers)
-        (read_by l.fn.view)) l.initial.hunt l.hunt
+    (read_by l.fn.view)) l.initial.hunt l.hunt

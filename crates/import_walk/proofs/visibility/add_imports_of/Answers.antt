@@ -1,5 +1,5 @@
-use Rattle.std.proofs.Common.{◌≡◌, List, ℕ, sym, ◌∙◌, ap, subst, length}
-use Rattle.std.specs.Prelude.{◌||◌, cond}
+use Rattle.std.proofs.Common.{List, ℕ, sym, subst, length}
+use Rattle.std.specs.Prelude.{◌||◌}
 use Rattle.demand_core.specs.Computation.{joined}
 use Rattle.element_store.specs.Condition.{imports_of}
 use Rattle.element_store.specs.Model.{Data}
@@ -26,12 +26,12 @@ returns g c base =
     let tasks = c.hunt.inside.tasks.items in
     let found = c.hunt.inside.found in
     subst (λ z. Defers lib x base files w inner (length (imports_at files c.args.of)) (import_tier (again_from lib x base inner)
-        (λ i. all || is_public i.visibility) x c.args.of w) z c.add_imports.new.hunt) c.hunt.view_is
+    (λ i. all || is_public i.visibility) x c.args.of w) z c.add_imports.new.hunt) c.hunt.view_is
     (defers_read lib x base files w inner (length (imports_at files c.args.of)) (model f) (λ m. joined (shown_import lib x base inner all f m)
-        (imports_of m c.args.of.index)) d tasks found c.hunt.inside.notes c.model.new.notes c.add_imports.new.hunt
+    (imports_of m c.args.of.index)) d tasks found c.hunt.inside.notes c.model.new.notes c.add_imports.new.hunt
     c.in_ok-model.ensures.read
     (subst (λ (m : Data). Defers lib x base files w inner (length (imports_of m c.args.of.index)) (joined (shown_import lib x base inner all f d)
-        (imports_of d c.args.of.index) w) (hunt_of tasks found c.model.new.notes) c.add_imports.new.hunt) (sym there)
+    (imports_of d c.args.of.index) w) (hunt_of tasks found c.model.new.notes) c.add_imports.new.hunt) (sym there)
     (subst (λ (ks : List ℕ). Defers lib x base files w inner (length ks) (joined (shown_import lib x base inner all f d) ks w)
-        (hunt_of tasks found c.model.new.notes) c.add_imports.new.hunt) c.imports_of-numbers.ensures.lent
+    (hunt_of tasks found c.model.new.notes) c.add_imports.new.hunt) c.imports_of-numbers.ensures.lent
     (c.in_ok-add_imports.ensures base))))

@@ -1,4 +1,4 @@
-use Rattle.std.proofs.Common.{◌≡◌, List, ℕ, ◌<◌, sym, ◌∙◌, ap, subst, length}
+use Rattle.std.proofs.Common.{List, ℕ, ◌<◌, sym, ◌∙◌, ap, subst, length}
 use Rattle.std.specs.Prelude.{nat_eq}
 use Rattle.std.specs.List.{All}
 use Rattle.demand_core.specs.Computation.{joined}
@@ -33,12 +33,12 @@ returns c lib x base =
     let found = c.hunt.inside.found in
     let are = c.as_slice-2.ensures ∙ (c.in_ok-numbers.ensures ∙ (ap members_in c.as_slice.ensures ∙ c.items-items.ensures.members)) in
     subst (λ z. Defers lib x base files w inner (length (members_at files c.args.of)) (inside
-        (again_from lib x base inner) all c.args.of w) z c.add_members.new.hunt) c.hunt.view_is
+    (again_from lib x base inner) all c.args.of w) z c.add_members.new.hunt) c.hunt.view_is
     (defers_read lib x base files w inner (length (members_at files c.args.of)) (model f) (λ m. joined (owned_part lib x base inner all f m)
-        (members_of m c.args.of.index)) d tasks found c.hunt.inside.notes c.model.new.notes c.add_members.new.hunt
+    (members_of m c.args.of.index)) d tasks found c.hunt.inside.notes c.model.new.notes c.add_members.new.hunt
     c.in_ok-model.ensures.read
     (subst (λ (m : Data). Defers lib x base files w inner (length (members_of m c.args.of.index)) (joined (owned_part lib x base inner all f d)
-        (members_of d c.args.of.index) w) (hunt_of tasks found c.model.new.notes) c.add_members.new.hunt) (sym there)
+    (members_of d c.args.of.index) w) (hunt_of tasks found c.model.new.notes) c.add_members.new.hunt) (sym there)
     (subst (λ (ks : List ℕ). Defers lib x base files w inner (length ks) (joined (owned_part lib x base inner all f d) ks w)
-        (hunt_of tasks found c.model.new.notes) c.add_members.new.hunt) are
+    (hunt_of tasks found c.model.new.notes) c.add_members.new.hunt) are
     (c.in_ok-add_members.ensures lib x base files w c.in_ok-model.ensures.stored))))

@@ -11,7 +11,7 @@ returns-in_ok-add_inside c lib x base =
     let files = c.args.view.now.models.now in
     let n = length (members_at files c.args.of) in
     defers_true lib x base files (read_by c.args.view.now) c.args.inner.now n c.args.asked (inside
-        (again_from lib x base c.args.inner.now) c.args.all c.args.of) (done []) c.args.hunt.now c.add_inside.new.hunt c.if-asked.true
+    (again_from lib x base c.args.inner.now) c.args.all c.args.of) (done []) c.args.hunt.now c.add_inside.new.hunt c.if-asked.true
     (c.in_ok-add_inside.ensures lib x base)
 
 pub returns-else-asked : goal.returns-else-asked
@@ -19,5 +19,5 @@ returns-else-asked c lib x base =
     let files = c.args.view.now.models.now in
     let n = length (members_at files c.args.of) in
     defers_false lib x base files (read_by c.args.view.now) c.args.inner.now n c.args.asked (inside
-        (again_from lib x base c.args.inner.now) c.args.all c.args.of) (done []) c.args.hunt.now c.args.hunt.now c.if-asked.false
+    (again_from lib x base c.args.inner.now) c.args.all c.args.of) (done []) c.args.hunt.now c.args.hunt.now c.if-asked.false
     (defers_none lib x base files (read_by c.args.view.now) c.args.inner.now n c.args.hunt.now)

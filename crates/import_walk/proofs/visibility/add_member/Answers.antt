@@ -14,18 +14,18 @@ returns-in_ok-defer_owned c lib x base files w there =
     let inner = c.args.inner.now in
     let m = c.member-member.result.now in
     subst (λ o. Defers lib x base files w inner 1 (told o (λ j. cond (c.args.all || is_public j.visibility) (in_owned
-        (again_from lib x base inner) c.args.all c.args.file j.target) (done [])) w) c.args.hunt.now c.defer_owned.new.hunt) (sym c.member-member.ensures.lent)
+    (again_from lib x base inner) c.args.all c.args.file j.target) (done [])) w) c.args.hunt.now c.defer_owned.new.hunt) (sym c.member-member.ensures.lent)
     (defers_true lib x base files w inner 1 (c.args.all || is_public m.visibility) (in_owned (again_from lib x base inner) c.args.all c.args.file m.target)
-        (done []) c.args.hunt.now c.defer_owned.new.hunt
+    (done []) c.args.hunt.now c.defer_owned.new.hunt
     (sym c.is_shown-shown.ensures ∙ c.if-shown.true) (c.in_ok-defer_owned.ensures lib x base files w
-        (target_in files c.args.file c.args.model.now m.target there c.member-member.ensures.target)))
+    (target_in files c.args.file c.args.model.now m.target there c.member-member.ensures.target)))
 
 pub returns-else-shown : goal.returns-else-shown
 returns-else-shown c lib x base files w there =
     let inner = c.args.inner.now in
     let m = c.member-member.result.now in
     subst (λ o. Defers lib x base files w inner 1 (told o (λ j. cond (c.args.all || is_public j.visibility) (in_owned
-        (again_from lib x base inner) c.args.all c.args.file j.target) (done [])) w) c.args.hunt.now c.args.hunt.now) (sym c.member-member.ensures.lent)
+    (again_from lib x base inner) c.args.all c.args.file j.target) (done [])) w) c.args.hunt.now c.args.hunt.now) (sym c.member-member.ensures.lent)
     (defers_false lib x base files w inner 1 (c.args.all || is_public m.visibility) (in_owned (again_from lib x base inner) c.args.all c.args.file m.target)
-        (done []) c.args.hunt.now c.args.hunt.now
+    (done []) c.args.hunt.now c.args.hunt.now
     (sym c.is_shown-shown.ensures ∙ c.if-shown.false) (defers_none lib x base files w inner 1 c.args.hunt.now))

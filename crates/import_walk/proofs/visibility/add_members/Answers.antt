@@ -9,12 +9,12 @@ loop-number-init c lib x base files w there = defers_none lib x base files w c.a
 pub loop-number-preserved : goal.loop-number-preserved
 loop-number-preserved c lib x base files w there =
     defers_next lib x base files w c.args.inner.now
-        (owned_part lib x base c.args.inner.now c.args.all c.args.file c.args.model.now) c.args.numbers.now c.loop-number.number-index _ _
+    (owned_part lib x base c.args.inner.now c.args.all c.args.file c.args.model.now) c.args.numbers.now c.loop-number.number-index _ _
     c.args.hunt.now c.loop-number.hunt c.add_member.new.hunt c.loop-number-test.true refl (c.loop-number.invariant lib x base files w there)
-        (c.in_ok-add_member.ensures lib x base files w there)
+    (c.in_ok-add_member.ensures lib x base files w there)
 
 pub returns : goal.returns
 returns c lib x base files w there =
     defers_all lib x base files w c.args.inner.now
-        (owned_part lib x base c.args.inner.now c.args.all c.args.file c.args.model.now) c.args.numbers.now c.loop-number.number-index
+    (owned_part lib x base c.args.inner.now c.args.all c.args.file c.args.model.now) c.args.numbers.now c.loop-number.number-index
     c.args.hunt.now c.loop-number.hunt (omega (arith, c.loop-number-test.false)) (c.loop-number.invariant lib x base files w there)

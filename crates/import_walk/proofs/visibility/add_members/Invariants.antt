@@ -12,4 +12,4 @@ use Rattle.import_walk.proofs.visibility.add_members.Given as goal
 abbrev pub invariant-loop-number : goal.invariant-loop-number
 invariant-loop-number l = (lib : Library) (x : List ℕ) (base : ℕ) (files : List StoredFile) (w : LinkWorld) → model_of files l.fn.file.0 ≡ Some l.model
     → Defers lib x base files w l.inner (length (take l.number-index l.numbers)) (joined (owned_part lib x base l.inner l.fn.all l.fn.file l.model)
-        (take l.number-index l.numbers) w) l.initial.hunt l.hunt
+    (take l.number-index l.numbers) w) l.initial.hunt l.hunt

@@ -22,7 +22,7 @@ returns g c base =
     let found = c.hunt.inside.found in
     subst (λ z. Defers lib x base files w excluded 1 (brings x i again w) z c.add_import.new.hunt) c.hunt.view_is
     (defers_read lib x base files w excluded 1 (model i.file) (λ m. told (slice_get m.imports i.index)
-        (brought again x i.file)) d tasks found c.hunt.inside.notes c.model.new.notes c.add_import.new.hunt c.in_ok-model.ensures.read
+    (brought again x i.file)) d tasks found c.hunt.inside.notes c.model.new.notes c.add_import.new.hunt c.in_ok-model.ensures.read
     (subst (λ o. Defers lib x base files w excluded 1 (told o (brought again x i.file) w) (hunt_of tasks found c.model.new.notes) c.add_import.new.hunt)
-        (sym c.import-own.ensures.lent)
+    (sym c.import-own.ensures.lent)
     (c.in_ok-add_import.ensures base)))

@@ -1,4 +1,4 @@
-use Rattle.std.proofs.Common.{◌≡◌, true, cond, [], sym, ◌∙◌, ap, subst}
+use Rattle.std.proofs.Common.{true, cond, [], sym, subst}
 use Rattle.demand_core.specs.Computation.{done, join}
 use Rattle.link_model.specs.Imports.{under_name, last_written}
 use Rattle.link_model.specs.Outside.{library_of}
@@ -20,9 +20,9 @@ returns-then-import g c base =
     let inner = c.args.inner.now in
     let again = again_from lib x base inner in
     defers_true lib x base files w inner 1 i.star (again i.recursive i.all e) (join (under_name x (last_written c.args.model.now i) e) (cond i.recursive
-        (again true i.all e) (done []))) c.args.hunt.now c.defer.new.self c.if-import.true
+    (again true i.all e) (done []))) c.args.hunt.now c.defer.new.self c.if-import.true
     (subst (λ z. Defers lib x base files w inner 1 (again i.recursive i.all e w) c.args.hunt.now z) (sym c.in_ok-defer.ensures)
-        (defers_task lib x base files w inner i.recursive i.all e c.args.hunt.now c.requires.stands))
+    (defers_task lib x base files w inner i.recursive i.all e c.args.hunt.now c.requires.stands))
 
 pub returns : goal.returns
 returns g c base =
@@ -41,6 +41,6 @@ returns g c base =
     (defers_join lib x base files w inner 0 1 under more c.args.hunt.now c.add.new.self c.defer_if.new.hunt
     (subst (λ z. Defers lib x base files w inner 0 (under w) c.args.hunt.now z) (sym c.in_ok-add.ensures)
     (subst (λ z. Defers lib x base files w inner 0 (under_name x z e w) c.args.hunt.now
-        (plus c.args.hunt.now c.in_ok-gains.gains.found c.in_ok-gains.gains.waits c.in_ok-gains.gains.looks)) last
+    (plus c.args.hunt.now c.in_ok-gains.gains.found c.in_ok-gains.gains.waits c.in_ok-gains.gains.looks)) last
     (defers_gains lib x base files w inner 0 c.in_ok-gains.gains (under_name x c.last_segment-last.result.now e w) c.args.hunt.now c.in_ok-gains.ensures)))
     (c.in_ok-defer_if.ensures lib x base files w c.requires.stands))

@@ -19,10 +19,10 @@ returns-then-decided g c base =
     let inner = c.args.inner.now in
     let gains = c.in_ok-gains.gains in
     subst (λ z. Defers lib x base files w inner (length (imports_at files c.args.of)) (tiers_then lib x base inner all c.args.of w) c.args.hunt.now z)
-        (sym c.in_ok-add.ensures)
+    (sym c.in_ok-add.ensures)
     (defers_first lib x base files w inner (length (imports_at files c.args.of)) gains (first_of (own_tiers lib all x c.args.of))
     (λ hs. cond (is_nil hs) (import_tier (again_from lib x base inner) (λ i. all || is_public i.visibility) x c.args.of)
-        (done hs)) c.args.hunt.now c.in_ok-gains.ensures
+    (done hs)) c.args.hunt.now c.in_ok-gains.ensures
     (decided_some gains.waits gains.found (sym c.is_decided-decided.ensures ∙ c.if-decided.true)) (λ h hs. refl))
 
 pub returns : goal.returns
@@ -39,4 +39,4 @@ returns g c base =
     defers_second lib x base files w inner (length (imports_at files c.args.of)) gains (first_of (own_tiers lib all x c.args.of))
     (λ hs. cond (is_nil hs) tier (done hs)) c.args.hunt.now c.add_imports_of.new.hunt c.in_ok-gains.ensures none.0 none.1
     (subst (λ z. Defers lib x base files w inner (length (imports_at files c.args.of)) (tier w) z c.add_imports_of.new.hunt) c.in_ok-add.ensures
-        (c.in_ok-add_imports_of.ensures base))
+    (c.in_ok-add_imports_of.ensures base))

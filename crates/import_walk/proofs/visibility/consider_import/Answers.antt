@@ -19,9 +19,9 @@ returns-in_ok-add_import g c base =
     let f = c.args.number.file in
     let inner = c.args.inner.now in
     subst (λ o. Defers lib x base files w inner 1 (told o (λ j. cond (c.args.all || is_public j.visibility) (brought (again_from lib x base inner) x f j)
-        (done [])) w) c.args.hunt.now c.add_import.new.hunt) (sym c.import-import.ensures.lent)
+    (done [])) w) c.args.hunt.now c.add_import.new.hunt) (sym c.import-import.ensures.lent)
     (defers_true lib x base files w inner 1 (c.args.all || is_public i.visibility) (brought (again_from lib x base inner) x f i)
-        (done []) c.args.hunt.now c.add_import.new.hunt
+    (done []) c.args.hunt.now c.add_import.new.hunt
     (sym c.is_shown-shown.ensures ∙ c.if-shown.true) (c.in_ok-add_import.ensures base))
 
 pub returns-else-shown : goal.returns-else-shown
@@ -34,7 +34,7 @@ returns-else-shown g c base =
     let f = c.args.number.file in
     let inner = c.args.inner.now in
     subst (λ o. Defers lib x base files w inner 1 (told o (λ j. cond (c.args.all || is_public j.visibility) (brought (again_from lib x base inner) x f j)
-        (done [])) w) c.args.hunt.now c.args.hunt.now) (sym c.import-import.ensures.lent)
+    (done [])) w) c.args.hunt.now c.args.hunt.now) (sym c.import-import.ensures.lent)
     (defers_false lib x base files w inner 1 (c.args.all || is_public i.visibility) (brought (again_from lib x base inner) x f i)
-        (done []) c.args.hunt.now c.args.hunt.now
+    (done []) c.args.hunt.now c.args.hunt.now
     (sym c.is_shown-shown.ensures ∙ c.if-shown.false) (defers_none lib x base files w inner 1 c.args.hunt.now))

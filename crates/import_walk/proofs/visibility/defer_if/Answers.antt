@@ -8,12 +8,12 @@ pub returns-in_ok-defer : goal.returns-in_ok-defer
 returns-in_ok-defer c lib x base files w stands =
     let inner = c.args.inner.now in
     defers_true lib x base files w inner 1 c.args.asked (again_from lib x base inner true c.args.all c.args.namespace)
-        (done []) c.args.hunt.now c.defer.new.self c.if-asked.true
+    (done []) c.args.hunt.now c.defer.new.self c.if-asked.true
     (subst (Defers lib x base files w inner 1 (again_from lib x base inner true c.args.all c.args.namespace w) c.args.hunt.now) (sym c.in_ok-defer.ensures)
     (defers_task lib x base files w inner true c.args.all c.args.namespace c.args.hunt.now stands))
 
 pub returns-else-asked : goal.returns-else-asked
 returns-else-asked c lib x base files w stands =
     defers_false lib x base files w c.args.inner.now 1 c.args.asked (again_from lib x base c.args.inner.now true c.args.all c.args.namespace)
-        (done []) c.args.hunt.now c.args.hunt.now c.if-asked.false
+    (done []) c.args.hunt.now c.args.hunt.now c.if-asked.false
     (defers_none lib x base files w c.args.inner.now 1 c.args.hunt.now)

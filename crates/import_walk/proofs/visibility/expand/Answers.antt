@@ -19,7 +19,7 @@ returns-then-known-clause-gives g c base le =
     let t = c.args.task.now in
     let lt = below c.as_slice-depth.result.now t.excluded base c.as_slice-depth.ensures c.as_slice-depth.type_inv.0 le in
     defers_excluded (library_of files) c.args.name.now base files w (width files t) t c.args.hunt.now lt (sym (c.is_in-known.ensures ∙ ap
-        (is_in t.namespace) c.as_slice.ensures) ∙ c.if-known.true)
+    (is_in t.namespace) c.as_slice.ensures) ∙ c.if-known.true)
 
 pub returns-clause-gives : goal.returns-clause-gives
 returns-clause-gives g c base le =
@@ -30,11 +30,11 @@ returns-clause-gives g c base le =
     let t = c.args.task.now in
     let lt = below c.as_slice-depth.result.now t.excluded base c.as_slice-depth.ensures c.as_slice-depth.type_inv.0 le in
     let inner : c.append_elements.new.elements ≡ t.namespace ∷ t.excluded = c.in_ok-append_elements.ensures ∙ (ap (λ z. z ++ c.as_slice-2.result.now)
-        (c.in_ok-push.ensures.ok ∙ ap (λ z. z ++ t.namespace ∷ []) c.new-inner.ensures) ∙ ap (λ z. t.namespace ∷ z) c.as_slice-2.ensures) in
+    (c.in_ok-push.ensures.ok ∙ ap (λ z. z ++ t.namespace ∷ []) c.new-inner.ensures) ∙ ap (λ z. t.namespace ∷ z) c.as_slice-2.ensures) in
     defers_expanded lib x base files w t c.args.hunt.now c.add_tiers.new.hunt c.add_inside_if.new.hunt lt (sym (c.is_in-known.ensures ∙ ap
-        (is_in t.namespace) c.as_slice.ensures) ∙ c.if-known.false)
+    (is_in t.namespace) c.as_slice.ensures) ∙ c.if-known.false)
     (subst (λ z. Defers lib x base files w z (length (imports_at files t.namespace))
-        (tiers_then lib x base z t.all t.namespace w) c.args.hunt.now c.add_tiers.new.hunt) (c.as_slice-3.ensures ∙ inner) (c.in_ok-add_tiers.ensures base))
+    (tiers_then lib x base z t.all t.namespace w) c.args.hunt.now c.add_tiers.new.hunt) (c.as_slice-3.ensures ∙ inner) (c.in_ok-add_tiers.ensures base))
     (subst (λ z. Defers lib x base files w z (length (members_at files t.namespace)) (cond t.recursive (inside (again_from lib x base z) t.all t.namespace)
-        (done []) w) c.add_tiers.new.hunt c.add_inside_if.new.hunt) (c.as_slice-4.ensures ∙ inner)
+    (done []) w) c.add_tiers.new.hunt c.add_inside_if.new.hunt) (c.as_slice-4.ensures ∙ inner)
     (c.in_ok-add_inside_if.ensures lib x base))

@@ -1,4 +1,4 @@
-use Rattle.std.proofs.Common.{◌++◌, ◌-◌, take, ◌^◌, [], ◌∷◌, List, refl, sym, ◌∙◌, ap, subst, arith}
+use Rattle.std.proofs.Common.{◌++◌, ◌-◌, take, ◌^◌, [], ◌∷◌, refl, sym, ◌∙◌, ap, subst, arith}
 use Rattle.link_model.specs.Outside.{library_of}
 use Rattle.link_walk.specs.Calls.{elements_of, read_by}
 use Rattle.link_walk.proofs.ElementLaws.{element_among}
@@ -25,9 +25,9 @@ loop-task-smaller g c =
     let nodes = sym (ap (λ z. z.nodes) c.hunt.view_is) ∙ c.in-Some.ensures.items in
     let stands = task_in files t rest c.loop-task.hunt.nodes nodes c.loop-task.invariant.stand in
     hunt_less lib x (2 ^ 64) files w (elements_of files) (width files t) (asks_task lib x (2 ^ 64) t w) t rest c.loop-task.hunt
-        (hunt_of rest c.hunt.inside.found c.hunt.inside.notes) c.expand.new.hunt nodes refl
+    (hunt_of rest c.hunt.inside.found c.hunt.inside.notes) c.expand.new.hunt nodes refl
     (element_among files t.namespace stands) (narrow files c.files.ensures.kept t.namespace stands) c.in_ok-expand.ensures.excluded
-        (c.in_ok-expand.ensures.gives (2 ^ 64) (omega arith))
+    (c.in_ok-expand.ensures.gives (2 ^ 64) (omega arith))
 
 pub loop-task-preserved : goal.loop-task-preserved
 loop-task-preserved g c =
@@ -54,6 +54,6 @@ returns g c base a le sound h =
     let x = c.args.name.now in
     let w = read_by c.args.view.now in
     let asked = hunt_ends lib x base w a (hunt_of c.hunt.inside.tasks.items c.hunt.inside.found c.hunt.inside.notes) (c.in_default.ensures.items ∙ ap
-        (λ z. z ++ []) (c.in_default.ensures.rest ∙ ap (λ n. take (n - 1) c.hunt.inside.tasks.items) c.in_default.ensures.cases.0)) sound
+    (λ z. z ++ []) (c.in_default.ensures.rest ∙ ap (λ n. take (n - 1) c.hunt.inside.tasks.items) c.in_default.ensures.cases.0)) sound
     (subst (IsHunt lib x base w a) (sym c.hunt.view_is) (c.loop-task.invariant.hunt base a le h)) in
     record { step = asked.step; looks = asked.looks }

@@ -1,4 +1,4 @@
-use Rattle.std.proofs.Common.{ℕ, List}
+use Rattle.std.proofs.Common.{ℕ}
 use Rattle.std.specs.Prelude.{◌≤◌, ◌^◌}
 use Rattle.link_model.specs.Outside.{library_of}
 use Rattle.link_walk.specs.Calls.{elements_of, files_of, read_by}
