@@ -73,7 +73,8 @@ module _ (w : LinkWorld) where
       ap (λ todo. first_own w (walk w (suc n) seen todo)) (turned stack g)
       ∙ ap (first_own w) (walk_taken n seen (reverse stack) g e)
       ∙ ap (λ o. this_or o (first_own w (walk w n (g ∷ seen) (redefined w g ++ reverse stack)))) (sym is)
-      ∙ ap (λ r. this_or (option_map as_decider found) (first_own w r)) (walk_same n (g ∷ seen) (seen ++ g ∷ []) (redefined w g ++ reverse stack) (λ q. sym (is_in_end q seen g)))
+      ∙ ap (λ r. this_or (option_map as_decider found) (first_own w r))
+      (walk_same n (g ∷ seen) (seen ++ g ∷ []) (redefined w g ++ reverse stack) (λ q. sym (is_in_end q seen g)))
       ∙ ap (λ todo. this_or (option_map as_decider found) (first_own w (walk w n (seen ++ g ∷ []) todo))) (both_turned stack (redefined w g))
     where
       both_turned : (xs ys : List ElementNo) → ys ++ reverse xs ≡ reverse (xs ++ reverse ys)

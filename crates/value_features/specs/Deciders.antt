@@ -23,7 +23,8 @@ as_decider d = record { feature = d.feature; own = record { of_result = d.of_res
 
 -- its nodes are those of the value or of the result of its feature
 abbrev pub HasNodes : LinkWorld → Decider → Type 0
-HasNodes w d = option_and_then (expression_in d.of_result) (slice_get (model_at w d.feature.file).elements d.feature.index)
+HasNodes w d =
+    option_and_then (expression_in d.of_result) (slice_get (model_at w d.feature.file).elements d.feature.index)
     ≡ Some d.nodes.now
 
 -- where an outcome leads

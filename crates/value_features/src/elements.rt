@@ -27,7 +27,8 @@ pub(crate) fn home<'a>(view: &View<'a>, e: ElementNo) -> Option<&'a FileModel>
 
 /// Lends an element. None comes where there is no such element; it reads as a root.
 pub fn element<'a>(view: &View<'a>, e: ElementNo) -> Option<&'a Element>
-    ensures value { unwrap_or (option_copied result) root_element ≡ element_at (read_by view.now) e }
+    ensures value { unwrap_or (option_copied result) root_element
+        ≡ element_at (read_by view.now) e }
     ensures there { IfSome result
         (λ x. slice_get (model_at (read_by view.now) e.file).elements e.index ≡ Some x.now) }
 {
