@@ -1,0 +1,11 @@
+//! The rules of values over a list of keys, and the value of a key by rounds over them.
+//!
+//! `value_model` defines both (specs/Valuing). Which feature is meant in a target is told by
+//! `Meanings`.
+#![tactic(auto)]
+
+mod keys;
+mod rules;
+
+pub use keys::ValueKeys;
+pub use rules::{ValueRules, value_over};
