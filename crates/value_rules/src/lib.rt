@@ -5,7 +5,9 @@
 #![tactic(auto)]
 
 mod keys;
+mod reach;
 mod rules;
 
 pub use keys::ValueKeys;
+pub use reach::reachable;
 pub use rules::{ValueRules, value_over};
