@@ -7,7 +7,9 @@
 mod keys;
 mod reach;
 mod rules;
+mod values;
 
 pub use keys::ValueKeys;
 pub use reach::reachable;
 pub use rules::{ValueRules, value_over};
+pub use values::value_of;
