@@ -1,0 +1,3 @@
+pub mod Answered
+pub mod Tiers
+pub mod Picks

@@ -1,0 +1,11 @@
+//! What the tiers of names give for a reference: the first tier that isn't empty, the least of its
+//! members, and the way on through the later segments (KerML 8.2.3.5, name resolution).
+#![tactic(auto)]
+
+mod lookups;
+mod picking;
+mod tiers;
+
+pub use lookups::Lookups;
+pub use picking::{Picked, pick};
+pub use tiers::try_tier;
