@@ -1,6 +1,7 @@
 -- Tiers that are tried one after another.
-use Rattle.std.specs.Prelude.{◌≡◌, Bool, true, false, not, ◌||◌, List, [], ◌++◌}
+use Rattle.std.specs.Prelude.{◌≡◌, ℕ, suc, Bool, true, false, not, cond, nat_lt, ◌||◌, List, [], ◌∷◌, ◌++◌, slice_get, Option, None, Some}
 use Rattle.linker_base.specs.Members.{IsMember, SameMembers}
+use Rattle.demand_core.specs.Computation.{done, join}
 use Rattle.demand_core.specs.Search.{IsAsked}
 use Rattle.demand_core.specs.declared.looks.Fact.{Fact}
 use Rattle.element_store.specs.declared.models.StoredFile.{StoredFile}
@@ -9,7 +10,14 @@ use Rattle.link_model.specs.declared.keys.LinkKey.{LinkKey}
 use Rattle.link_model.specs.declared.keys.LinkFact.{LinkFact}
 use Rattle.link_model.specs.declared.keys.Hit.{Hit}
 use Rattle.link_model.specs.Linking.{MemberStands}
-use Rattle.link_model.specs.Readers.{Lookup, LinkWorld, is_nil, first_of}
+use Rattle.link_model.specs.Readers.{Lookup, LinkWorld, is_nil, told, first_of}
+use Rattle.link_model.specs.Imports.{brought, import_tier, visible}
+use Rattle.link_model.specs.Lexical.{way_up}
+use Rattle.link_model.specs.Outside.{Library}
+use Rattle.element_store.specs.declared.numbers.FileNo.{FileNo}
+use Rattle.element_store.specs.declared.numbers.ElementNo.{ElementNo}
+use Rattle.element_store.specs.declared.records.Import.{Import}
+use Rattle.element_store.specs.Model.{Data}
 use Rattle.link_walk.specs.Noted.{Asks, LinkTrail}
 
 -- members and elements of the hits stand
@@ -39,3 +47,26 @@ pub record Tried (w : LinkWorld) (tiers : List (Lookup (List Hit))) (decided : B
     : Type 0 where
   pub tried : (more : List (Lookup (List Hit))) (whole : Asks (List Hit))
       → Reaches false old (first_of (tiers ++ more) w) whole → Reaches decided new (first_of more w) whole
+
+-- a part of a stage is added: what was asked before and the part are asked together
+pub record Joins (w : LinkWorld) (part : Lookup (List Hit)) (old new : LinkTrail Hit) : Type 0 where
+  pub joins : (c : Lookup (List Hit)) → IsAsked old (c w) → IsAsked new (join c part w)
+
+-- an import is written before a reference, if one is given: the imports of a body have rising references
+abbrev pub is_taken : Option ℕ → Import → Bool
+is_taken None i = true
+is_taken (Some r) i = nat_lt i.reference r
+
+-- what the import of that number brings, if it is taken
+abbrev pub import_part : Library → List ℕ → Option ℕ → ElementNo → Data → ℕ → Lookup (List Hit)
+import_part lib x before at d k = told (slice_get d.imports k)
+    (λ i. cond (is_taken before i) (brought (visible lib x (at ∷ [])) x at.file i) (done []))
+
+-- what the imports of a namespace bring that are taken
+abbrev pub imports_taken : Library → List ℕ → Option ℕ → ElementNo → Lookup (List Hit)
+imports_taken lib x before at = import_tier (visible lib x (at ∷ [])) (is_taken before) x at
+
+-- an element, its owner, and so on
+abbrev pub way_from : Data → FileNo → Option ℕ → List ElementNo
+way_from d f None = []
+way_from d f (Some e) = way_up d f (suc e) e

@@ -4,8 +4,10 @@
 
 mod lookups;
 mod picking;
+mod roots;
 mod tiers;
 
 pub use lookups::Lookups;
 pub use picking::{Picked, pick};
+pub use roots::try_roots;
 pub use tiers::try_tier;
