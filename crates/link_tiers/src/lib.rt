@@ -3,11 +3,13 @@
 #![tactic(auto)]
 
 mod lookups;
+mod namespaces;
 mod picking;
 mod roots;
 mod tiers;
 
 pub use lookups::Lookups;
+pub use namespaces::{import_tier, inherited_tier, try_namespace};
 pub use picking::{Picked, pick};
 pub use roots::try_roots;
 pub use tiers::try_tier;
