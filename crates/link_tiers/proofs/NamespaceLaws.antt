@@ -200,3 +200,15 @@ module _ (w : LinkWorld) (lib : Library) (x : List ℕ) (d : Data) (is : IsModel
 
   pub way_ends : (from : Option ℕ) (start here : LinkTrail Hit) → IsOnWay from start None here → Tried w (rest_of from) false start here
   way_ends from start here h = h.on false here (tried_none w here)
+
+-- an owner stands where its element does, and the way is shorter from it
+pub owner_within : (o : Option ℕ) (i n : ℕ) → IfSome o (λ p. p < i) → i < n → IfSome o (λ p. p < n)
+owner_within None i n lt few = tt
+owner_within (Some p) i n lt few = omega (arith, lt, few)
+
+pub owner_nearer : (o at : Option ℕ) (i : ℕ) → at ≡ Some i → IfSome o (λ p. p < i) → option_map_or suc o 0 < option_map_or suc at 0
+owner_nearer o at i e lt = subst (λ z. option_map_or suc o 0 < option_map_or suc z 0) (sym e) (by o lt)
+  where
+    by : (o : Option ℕ) → IfSome o (λ p. p < i) → option_map_or suc o 0 < suc i
+    by None lt = omega arith
+    by (Some p) lt = omega (arith, lt)

@@ -9,7 +9,7 @@ mod roots;
 mod tiers;
 
 pub use lookups::Lookups;
-pub use namespaces::{import_tier, inherited_tier, try_namespace};
+pub use namespaces::{import_tier, inherited_tier, try_namespace, try_outward};
 pub use picking::{Picked, pick};
 pub use roots::try_roots;
 pub use tiers::try_tier;

@@ -1,4 +1,5 @@
-ghost use Rattle.std.specs.Prelude.{◌≡◌, ◌<◌, ◌++◌, cond, false, length, List, [], Some, IfOk, OnOk};
+ghost use Rattle.std.specs.Prelude.{◌≡◌, ◌<◌, ◌++◌, cond, false, length, List, [], Some, IfOk, IfSome, OnOk};
+ghost use Rattle.std.specs.List.{flat_map};
 ghost use Rattle.demand_core.specs.Computation.{done, joined};
 ghost use Rattle.demand_core.specs.Search.{IsAsked};
 ghost use Rattle.element_store.specs.BaseRules.{StandsIn, model_of};
@@ -9,11 +10,11 @@ ghost use Rattle.link_model.specs.Outside.{library_of};
 ghost use Rattle.link_walk.specs.Calls.{files_of, read_by, HasLinks};
 ghost use Rattle.link_walk.specs.Noted.{noted};
 ghost use Rattle.link_tiers.specs.Tiers.{AreFound, Joins, Tried};
-ghost use Rattle.link_tiers.specs.Tiers.{is_taken, import_part, imports_taken};
+ghost use Rattle.link_tiers.specs.Tiers.{is_taken, import_part, imports_taken, way_from};
 
 use crate::lookups::Lookups;
 use crate::tiers::try_tier;
-use element_store::{ElementNo, FileModel, Import, ImportNo, Name};
+use element_store::{ElementNo, FileModel, FileNo, Import, ImportNo, Name};
 use link_model::{Hit, View};
 use link_walk::{Gains, Hits, Notes, element, model};
 use linker_base::NoMemory;
@@ -198,4 +199,38 @@ pub fn try_namespace<T: Lookups>(
     let imported = import_tier(alloc, lookups, view, at, None, name)?;
     let decided = try_tier(gains, imported)?;
     Ok(decided)
+}
+
+/// Tries the tiers of an element, if one is given, of its owner, and so on up to the root of its file.
+pub fn try_outward<T: Lookups>(
+    alloc: Global,
+    lookups: &T,
+    view: &View,
+    model: &FileModel,
+    file: FileNo,
+    from: Option<u32>,
+    name: &Name,
+    gains: &mut Gains<Hit>,
+) -> Result<bool, NoMemory>
+    requires there { model_of (files_of view.now) file.0 ≡ Some model.now }
+    requires from { IfSome from (λ e. e < length model.now.elements) }
+    requires links { HasLinks view.now }
+    ensures tried { IfOk result (λ decided. Tried (read_by view.now) (flat_map (lexical.tiers
+        (library_of (files_of view.now)) name.now) (way_from model.now file from)) decided
+        gains.old gains.new) }
+    ensures found { IfOk result (λ decided. AreFound (files_of view.now) gains.old
+        → AreFound (files_of view.now) gains.new) }
+{
+    // A look at the elements tells that each owner stands before its element.
+    let _ = model.elements();
+    let mut at = from;
+    while let Some(index) = at {
+        let namespace = ElementNo { file, index };
+        let decided = try_namespace(alloc, lookups, view, namespace, name, gains)?;
+        if decided {
+            return Ok(true);
+        }
+        at = model.element(index).owner;
+    }
+    Ok(false)
 }
