@@ -28,7 +28,10 @@ keys_joined old more = record {
 pub facts_joined : (old more : List (Fact LinkKey LinkFact)) → SameMembers (marked_all same_fact old more) (old ++ more)
 facts_joined old more = record {
   left = λ k m. elim (all_new same_fact fact_is_exact more old k m) [ inl a ↦ member_left old more k a | inr b ↦ member_right old more k b ];
-  right = λ k m. elim (member_cases old more k m) [ inl a ↦ all_kept same_fact fact_is_exact more old k a | inr b ↦ all_now same_fact fact_is_exact more old k b ];
+  right = λ k m. elim (member_cases old more k m) [
+    | inl a ↦ all_kept same_fact fact_is_exact more old k a
+    | inr b ↦ all_now same_fact fact_is_exact more old k b
+  ];
 }
 
 pub same_back : {A : Type 0} {xs ys : List A} → SameMembers xs ys → SameMembers ys xs
@@ -38,12 +41,14 @@ pub same_equal : {A : Type 0} (xs ys : List A) → xs ≡ ys → SameMembers xs 
 same_equal xs ys e = subst (SameMembers xs) e (same_members xs)
 
 -- facts that are noted are what was, and others with the same members
-pub facts_noted : (old mid more looks : List (Fact LinkKey LinkFact)) → mid ≡ marked_all same_fact old more → SameMembers more looks → SameMembers mid (old ++ looks)
+pub facts_noted : (old mid more looks : List (Fact LinkKey LinkFact)) → mid ≡ marked_all same_fact old more → SameMembers more looks → SameMembers mid (old
+    ++ looks)
 facts_noted old mid more looks is s =
     subst (λ z. SameMembers z (old ++ looks)) (sym is) (same_through (facts_joined old more) (same_joined old more old looks (same_members old) s))
 
 -- what was before, then the first looks, then those after it
-looks_on : (old mid new first after : List (Fact LinkKey LinkFact)) → SameMembers mid (old ++ first) → SameMembers new (mid ++ after) → SameMembers new (old ++ (first ++ after))
+looks_on : (old mid new first after : List (Fact LinkKey LinkFact)) → SameMembers mid (old ++ first) → SameMembers new (mid ++ after) → SameMembers new (old
+    ++ (first ++ after))
 looks_on old mid new first after a b =
     subst (SameMembers new) (append_assoc old first after) (same_through b (same_joined mid after (old ++ first) after a (same_members after)))
 
@@ -56,7 +61,8 @@ pub answered_then : {A B : Type 0} (w : LinkWorld) (c : Lookup A) (f : A → Loo
     → Answered (c w) (Some v) old mid → Answered (f v w) y mid new → Answered ((c >>= f) w) y old new
 answered_then {A} {B} w c f v y old mid new a b = by (c w).step (c w).looks a.step a.looks
   where
-    by : (step : Step LinkKey A) (looks : List (Fact LinkKey LinkFact)) → IsAnswer step (Some v) old.waits mid.waits → SameMembers mid.looks (old.looks ++ looks)
+    by : (step : Step LinkKey A) (looks : List (Fact LinkKey LinkFact)) → IsAnswer step (Some v) old.waits mid.waits → SameMembers mid.looks (old.looks
+        ++ looks)
         → Answered (then_step (record { step = step; looks = looks }) (λ x. f x w) step) y old new
     by (Done u) looks s l =
         let same : v ≡ u = some_same v u s.0 in
@@ -68,7 +74,8 @@ answered_then {A} {B} w c f v y old mid new a b = by (c w).step (c w).looks a.st
     by (Waits ks) looks s l = let bad = s.0 in cc
 
 -- the first waits
-pub answered_stop : {A B : Type 0} (w : LinkWorld) (c : Lookup A) (f : A → Lookup B) (old new : Noted) → Answered (c w) None old new → Answered ((c >>= f) w) None old new
+pub answered_stop : {A B : Type 0} (w : LinkWorld) (c : Lookup A) (f : A → Lookup B) (old new : Noted) → Answered (c w) None old new → Answered
+    ((c >>= f) w) None old new
 answered_stop {A} {B} w c f old new a = by (c w).step (c w).looks a.step a.looks
   where
     by : (step : Step LinkKey A) (looks : List (Fact LinkKey LinkFact)) → IsAnswer step None old.waits new.waits → SameMembers new.looks (old.looks ++ looks)
@@ -125,7 +132,8 @@ pub asked_over : {B : Type 0} (t : LinkTrail B) (a b : Asks (List B)) → a.step
 asked_over t a b e l h = record { step = subst (IsStep t.found t.waits) e h.step; looks = same_through h.looks l }
 
 -- what is waited on, where anything is
-pub waits_are : {B : Type 0} (found : List B) (waits ks : List LinkKey) (k : LinkKey) → IsMember ks k → SameMembers waits ks → IsStep {B = B} found waits (Waits ks)
+pub waits_are : {B : Type 0} (found : List B) (waits ks : List LinkKey) (k : LinkKey) → IsMember ks k → SameMembers waits ks → IsStep {B = B} found waits
+    (Waits ks)
 waits_are found [] ks k m s = absurd (s.right k m)
 waits_are found (v ∷ vs) ks k m s = s
 
@@ -140,7 +148,8 @@ asked_join {B} w c d g h t a b found waits looks = record {
       (same_through (facts_joined g.looks h.looks) (same_joined g.looks h.looks (c w).looks (d w).looks a.looks b.looks));
 }
   where
-    by : (m n : Step LinkKey (List B)) (us vs : List LinkKey) → IsStep g.found us m → IsStep h.found vs n → IsStep (g.found ++ h.found) (marked_all same_key us vs) (join_step m n)
+    by : (m n : Step LinkKey (List B)) (us vs : List LinkKey) → IsStep g.found us m → IsStep h.found vs n → IsStep (g.found ++ h.found)
+        (marked_all same_key us vs) (join_step m n)
     by (Done xs) (Done ys) [] [] p q = same_joined g.found h.found xs ys p q
     by (Done xs) (Done ys) [] (v ∷ vs) p q = absurd q
     by (Done xs) (Done ys) (u ∷ us) vs p q = absurd p

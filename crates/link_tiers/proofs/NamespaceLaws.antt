@@ -58,7 +58,8 @@ twice : {A : Type 0} (x : A) (xs : List A) → IsMember xs x → SameMembers (x 
 twice x xs here = record { left = λ y. elim [ inl e ↦ subst (IsMember xs) e here | inr m ↦ m ]; right = λ y m. inr m }
 
 -- AN IMPORT that is taken joins
-module _ (files : List StoredFile) (entries : List (LinkKey × Outcome)) (lib : Library) (x : List ℕ) (before : Option ℕ) (at : ElementNo) (d : Data) (k : ℕ) (i : Import)
+module _ (files : List StoredFile) (entries : List (LinkKey × Outcome)) (lib : Library) (x : List ℕ) (before : Option ℕ) (at : ElementNo) (d : Data) (k : ℕ)
+    (i : Import)
     (there : model_of files at.file.0 ≡ Some d) (told_at : slice_get d.imports k ≡ Some i) where
   abbrev w : LinkWorld
   w = reading files entries
@@ -82,7 +83,8 @@ module _ (files : List StoredFile) (entries : List (LinkKey × Outcome)) (lib : 
   whole = imported lib x (at ∷ []) (record { file = at.file; index = k })
 
   pub joins_import : (g old new : LinkTrail Hit) → is_taken before i ≡ true → IsAsked g (whole w) → new.found ≡ old.found ++ g.found
-      → new.waits ≡ marked_all same_key old.waits g.waits → new.looks ≡ marked_all same_fact old.looks g.looks → Joins w (import_part lib x before at d k) old new
+      → new.waits ≡ marked_all same_key old.waits g.waits → new.looks ≡ marked_all same_fact old.looks g.looks → Joins w
+      (import_part lib x before at d k) old new
   joins_import g old new taken h found waits looks =
       joins_over w whole (import_part lib x before at d k) old new
       (ap (λ a. a.step) inner_is ∙ sym (ap (λ a. a.step) (part_is taken)))
@@ -102,7 +104,8 @@ found_added files g old new found waits p q none =
     subst (AreHits files) (sym found) (hits_more files old.found g.found (q b.0) (p b.1))
 
 -- so do those with other notes of the same waits
-pub found_same : (files : List StoredFile) (g new : LinkTrail Hit) (more : List LinkKey) → new.found ≡ g.found → new.waits ≡ marked_all same_key g.waits more → AreFound files g → AreFound files new
+pub found_same : (files : List StoredFile) (g new : LinkTrail Hit) (more : List LinkKey) → new.found ≡ g.found → new.waits
+    ≡ marked_all same_key g.waits more → AreFound files g → AreFound files new
 found_same files g new more found waits p none = subst (AreHits files) (sym found) (p (waits_before g.waits more new.waits waits none).0)
 
 missing : (xs : List Element) (k : ℕ) → slice_get xs k ≡ None → get_or xs k root_element ≡ root_element
@@ -122,7 +125,8 @@ module _ (d : Data) (is : IsModel d) (f : FileNo) where
     where
       told_by : (o : Option Element) → slice_get d.elements e ≡ o → IfSome (get_or d.elements e root_element).owner (λ o. o < e)
       told_by None none = subst (λ (z : Element). IfSome z.owner (λ o. o < e)) (sym (missing d.elements e none)) tt
-      told_by (Some z) some = subst (λ (y : Element). IfSome y.owner (λ o. o < e)) (sym (present d.elements e z some)) (owner_before d.elements e z is.root is.numbering.elements some)
+      told_by (Some z) some = subst (λ (y : Element). IfSome y.owner (λ o. o < e)) (sym (present d.elements e z some))
+          (owner_before d.elements e z is.root is.numbering.elements some)
 
   -- more steps than the number says make no difference
   enough : (n k e : ℕ) → e < n → e < k → way_up d f k e ≡ way_up d f (suc e) e
@@ -140,9 +144,11 @@ module _ (d : Data) (is : IsModel d) (f : FileNo) where
 
   -- the way from an element is the element, and the way from its owner
   pub way_on : (e : ℕ) (x : Element) → slice_get d.elements e ≡ Some x → way_from d f (Some e) ≡ record { file = f; index = e } ∷ way_from d f x.owner
-  way_on e x at = by (get_or d.elements e root_element).owner (owner_below e) ∙ ap (λ (z : Element). record { file = f; index = e } ∷ way_from d f z.owner) (present d.elements e x at)
+  way_on e x at = by (get_or d.elements e root_element).owner (owner_below e) ∙ ap (λ (z : Element). record { file = f; index = e } ∷ way_from d f z.owner)
+      (present d.elements e x at)
     where
-      by : (o : Option ℕ) → IfSome o (λ p. p < e) → record { file = f; index = e } ∷ option_map_or (way_up d f e) o [] ≡ record { file = f; index = e } ∷ way_from d f o
+      by : (o : Option ℕ) → IfSome o (λ p. p < e) → record { file = f; index = e } ∷ option_map_or (way_up d f e) o [] ≡
+          record { file = f; index = e } ∷ way_from d f o
       by None below = refl
       by (Some p) below = ap (λ z. record { file = f; index = e } ∷ z) (enough (suc p) e p (omega arith) below)
 
@@ -171,7 +177,8 @@ module _ (w : LinkWorld) (a b c d : Lookup (List Hit)) (old first : LinkTrail Hi
       four_third z r e = tried_on w (a ∷ b ∷ []) (c ∷ d ∷ []) true old second third passed_two
           (tried_end w (c ∷ []) (d ∷ []) second third (subst (λ v. Tried w (c ∷ []) v second third) e r))
 
-      pub four_last : (last : LinkTrail Hit) (z v : Bool) → Tried w (c ∷ []) z second third → z ≡ false → Tried w (d ∷ []) v third last → Tried w (a ∷ b ∷ c ∷ d ∷ []) v old last
+      pub four_last : (last : LinkTrail Hit) (z v : Bool) → Tried w (c ∷ []) z second third → z ≡ false → Tried w (d ∷ []) v third last → Tried w
+          (a ∷ b ∷ c ∷ d ∷ []) v old last
       four_last last z v r none s = tried_on w (a ∷ b ∷ []) (c ∷ d ∷ []) v old second last passed_two
           (tried_on w (c ∷ []) (d ∷ []) v second third last (subst (λ u. Tried w (c ∷ []) u second third) none r) s)
 
@@ -193,7 +200,8 @@ module _ (w : LinkWorld) (lib : Library) (x : List ℕ) (d : Data) (is : IsModel
         (tried_on w (tiers lib x (record { file = f; index = e })) (rest_of z.owner) b here mid new p q));
   }
 
-  pub way_decides : (from : Option ℕ) (start here mid : LinkTrail Hit) (e : ℕ) (z : Element) → slice_get d.elements e ≡ Some z → IsOnWay from start (Some e) here
+  pub way_decides : (from : Option ℕ) (start here mid : LinkTrail Hit) (e : ℕ) (z : Element) → slice_get d.elements e ≡ Some z → IsOnWay from start
+      (Some e) here
       → Tried w (tiers lib x (record { file = f; index = e })) true here mid → Tried w (rest_of from) true start mid
   way_decides from start here mid e z at h p = h.on true mid (subst (λ ns. Tried w (flat_map (tiers lib x) ns) true here mid) (sym (way_on d is f e z at))
       (tried_end w (tiers lib x (record { file = f; index = e })) (rest_of z.owner) here mid p))

@@ -32,14 +32,16 @@ joined_last w f (y ∷ xs) x =
     }
 
 -- one part more
-pub asked_next : {C : Type 0} (w : LinkWorld) (f : C → Lookup (List Hit)) (xs : List C) (i : ℕ) (d e : C) (old new : LinkTrail Hit) → i < length xs → d ≡ get_or xs i e
+pub asked_next : {C : Type 0} (w : LinkWorld) (f : C → Lookup (List Hit)) (xs : List C) (i : ℕ) (d e : C) (old new : LinkTrail Hit) → i < length xs → d
+    ≡ get_or xs i e
     → IsAsked old (joined f (take i xs) w) → Joins w (f d) old new → IsAsked new (joined f (take (i + 1) xs) w)
 asked_next w f xs i d e old new lt is a j =
     let more : take (i + 1) xs ≡ take i xs ++ d ∷ [] = rw add-one (take-suc xs i e lt) ∙ ap (λ z. take i xs ++ z ∷ []) (sym is) in
     subst (λ ys. IsAsked new (joined f ys w)) (sym more) (subst (IsAsked new) (sym (joined_last w f (take i xs) d)) (j.joins (joined f (take i xs)) a))
 
 -- after the last part
-pub asked_all : {C : Type 0} (w : LinkWorld) (f : C → Lookup (List Hit)) (xs : List C) (i : ℕ) (new : LinkTrail Hit) → length xs ≤ i → IsAsked new (joined f (take i xs) w) → IsAsked new (joined f xs w)
+pub asked_all : {C : Type 0} (w : LinkWorld) (f : C → Lookup (List Hit)) (xs : List C) (i : ℕ) (new : LinkTrail Hit) → length xs ≤ i → IsAsked new (joined f
+    (take i xs) w) → IsAsked new (joined f xs w)
 asked_all w f xs i new all h = subst (λ ys. IsAsked new (joined f ys w)) (take_all i xs all) h
 
 -- before the first
@@ -48,7 +50,10 @@ asked_none w t e = subst (λ z. IsAsked z (done [] w)) (sym e) (record { step = 
 
 -- a part that is nothing
 pub joins_none : (w : LinkWorld) (t : LinkTrail Hit) → Joins w (done []) t t
-joins_none w t = record { joins = λ c h. asked_over t (c w) (join c (done []) w) (sym (join_last (c w).step)) (same_equal (c w).looks ((c w).looks ++ []) (sym (append-nil (c w).looks))) h }
+joins_none w t = record {
+  joins = λ c h. asked_over t (c w) (join c (done []) w) (sym (join_last (c w).step)) (same_equal (c w).looks ((c w).looks ++ [])
+      (sym (append-nil (c w).looks))) h;
+}
 
 -- an asking of its own
 pub joins_asked : (w : LinkWorld) (part : Lookup (List Hit)) (g old new : LinkTrail Hit) → IsAsked g (part w) → new.found ≡ old.found ++ g.found
@@ -56,9 +61,11 @@ pub joins_asked : (w : LinkWorld) (part : Lookup (List Hit)) (g old new : LinkTr
 joins_asked w part g old new h found waits looks = record { joins = λ c a. asked_join w c part old g new a h found waits looks }
 
 -- a part that agrees
-pub joins_over : (w : LinkWorld) (p q : Lookup (List Hit)) (old new : LinkTrail Hit) → (p w).step ≡ (q w).step → SameMembers (p w).looks (q w).looks → Joins w p old new → Joins w q old new
+pub joins_over : (w : LinkWorld) (p q : Lookup (List Hit)) (old new : LinkTrail Hit) → (p w).step ≡ (q w).step → SameMembers (p w).looks (q w).looks
+    → Joins w p old new → Joins w q old new
 joins_over w p q old new e l j = record {
-  joins = λ c a. asked_over new (join c p w) (join c q w) (ap (join_step (c w).step) e) (same_joined (c w).looks (p w).looks (c w).looks (q w).looks (same_members (c w).looks) l) (j.joins c a);
+  joins = λ c a. asked_over new (join c p w) (join c q w) (ap (join_step (c w).step) e) (same_joined (c w).looks (p w).looks (c w).looks (q w).looks
+      (same_members (c w).looks) l) (j.joins c a);
 }
 
 swap : {A : Type 0} (us vs : List A) (x : A) → IsMember (us ++ vs) x → IsMember (vs ++ us) x
@@ -74,7 +81,8 @@ done_same : {C : Type 0} (u v : C) → ready u ≡ ready v → u ≡ v
 done_same u v e = cc
 
 -- LOOKS BEFORE a stage are noted after it
-pub asked_seen : {B : Type 0} (g t : LinkTrail B) (a b : Asks (List B)) (more : List (Fact LinkKey LinkFact)) → IsAsked g b → t.found ≡ g.found → t.waits ≡ g.waits
+pub asked_seen : {B : Type 0} (g t : LinkTrail B) (a b : Asks (List B)) (more : List (Fact LinkKey LinkFact)) → IsAsked g b → t.found ≡ g.found → t.waits
+    ≡ g.waits
     → t.looks ≡ marked_all same_fact g.looks more → a.step ≡ b.step → a.looks ≡ more ++ b.looks → IsAsked t a
 asked_seen g t a b more h found waits looks step ls = record {
   step = subst (IsStep t.found t.waits) (sym step) (subst (λ z. IsStep z t.waits b.step) (sym found) (subst (λ z. IsStep g.found z b.step) (sym waits) h.step));
@@ -83,33 +91,44 @@ asked_seen g t a b more h found waits looks step ls = record {
 }
 
 -- the same where a stage reads one thing, and then
-pub asked_read : {C B : Type 0} (w : LinkWorld) (c : Lookup C) (f : C → Lookup (List B)) (v : C) (old mid : Noted) (g t : LinkTrail B) → Reads (c w) v old mid → old ≡ record { waits = []; looks = [] }
-    → IsAsked g (f v w) → t.found ≡ g.found → t.waits ≡ marked_all same_key g.waits mid.waits → t.looks ≡ marked_all same_fact g.looks mid.looks → IsAsked t ((c >>= f) w)
+pub asked_read : {C B : Type 0} (w : LinkWorld) (c : Lookup C) (f : C → Lookup (List B)) (v : C) (old mid : Noted) (g t : LinkTrail B) → Reads
+    (c w) v old mid → old ≡ record { waits = []; looks = [] }
+    → IsAsked g (f v w) → t.found ≡ g.found → t.waits ≡ marked_all same_key g.waits mid.waits → t.looks ≡ marked_all same_fact g.looks mid.looks → IsAsked t
+    ((c >>= f) w)
 asked_read {C} {B} w c f v old mid g t r empty h found waits looks = by (c w).step (c w).looks r.step r.noted
   where
-    by : (step : Step LinkKey C) (ls : List (Fact LinkKey LinkFact)) → step ≡ Done v → mid ≡ noted [] ls old → IsAsked t (then_step {B = List B} (record { step = step; looks = ls }) (λ x. f x w) step)
+    by : (step : Step LinkKey C) (ls : List (Fact LinkKey LinkFact)) → step ≡ Done v → mid ≡ noted [] ls old → IsAsked t (then_step {B = List B}
+        (record { step = step; looks = ls }) (λ x. f x w) step)
     by (Done u) ls s n =
         let same : u ≡ v = done_same u v s in
         let none : mid.waits ≡ [] = ap (λ (z : Noted). z.waits) (n ∙ ap (noted [] ls) empty) in
         let seen : mid.looks ≡ marked_all same_fact [] ls = ap (λ (z : Noted). z.looks) (n ∙ ap (noted [] ls) empty) in
         subst (λ z. IsAsked t (then_step {B = List B} (record { step = Done u; looks = ls }) (λ x. f x w) (Done z))) (sym same) (record {
-          step = subst (IsStep t.found t.waits) refl (subst (λ z. IsStep z t.waits (f v w).step) (sym found) (subst (λ z. IsStep g.found z (f v w).step) (sym (waits ∙ ap (marked_all same_key g.waits) none)) h.step));
+          step = subst (IsStep t.found t.waits) refl (subst (λ z. IsStep z t.waits (f v w).step) (sym found) (subst (λ z. IsStep g.found z (f v w).step)
+              (sym (waits ∙ ap (marked_all same_key g.waits) none)) h.step));
           looks = subst (λ z. SameMembers z (ls ++ (f v w).looks)) (sym (looks ∙ ap (marked_all same_fact g.looks) seen))
-              (same_through (facts_joined g.looks (marked_all same_fact [] ls)) (same_through (same_joined g.looks (marked_all same_fact [] ls) (f v w).looks ls h.looks (facts_joined [] ls)) (turned (f v w).looks ls)));
+              (same_through (facts_joined g.looks (marked_all same_fact [] ls)) (same_through (same_joined g.looks (marked_all same_fact [] ls)
+              (f v w).looks ls h.looks (facts_joined [] ls)) (turned (f v w).looks ls)));
         })
     by (Waits ks) ls s n = cc
 
 -- a reading, and then what is told
-pub tells_after : {C B : Type 0} (w : LinkWorld) (c : Lookup C) (f : C → Lookup (List B)) (v : C) (o : Option B) (old mid new : Noted) → Reads (c w) v old mid → Tells (f v w) o mid new
+pub tells_after : {C B : Type 0} (w : LinkWorld) (c : Lookup C) (f : C → Lookup (List B)) (v : C) (o : Option B) (old mid new : Noted) → Reads
+    (c w) v old mid → Tells (f v w) o mid new
     → Tells ((c >>= f) w) o old new
 tells_after {C} {B} w c f v o old mid new r h = by (c w).step (c w).looks r.step r.noted
   where
-    by : (step : Step LinkKey C) (ls : List (Fact LinkKey LinkFact)) → step ≡ Done v → mid ≡ noted [] ls old → Tells (then_step {B = List B} (record { step = step; looks = ls }) (λ x. f x w) step) o old new
+    by : (step : Step LinkKey C) (ls : List (Fact LinkKey LinkFact)) → step ≡ Done v → mid ≡ noted [] ls old → Tells (then_step {B = List B}
+        (record { step = step; looks = ls }) (λ x. f x w) step) o old new
     by (Done u) ls s n =
         let same : u ≡ v = done_same u v s in
         subst (λ z. Tells (then_step {B = List B} (record { step = Done u; looks = ls }) (λ x. f x w) (Done z)) o old new) (sym same) (record {
           step = h.step;
           noted = h.noted ∙ (ap (noted (waits_of (f v w).step) (f v w).looks) n
-              ∙ λ i. record { waits = marked_all same_key old.waits (waits_of (f v w).step); looks = sym (marked_append same_fact old.looks ls (f v w).looks) i });
+              ∙ λ i. record {
+                waits = marked_all same_key old.waits (waits_of (f v w).step);
+                looks = sym (marked_append same_fact old.looks ls
+                    (f v w).looks) i;
+              });
         })
     by (Waits ks) ls s n = cc

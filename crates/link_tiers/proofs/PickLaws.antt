@@ -74,17 +74,20 @@ least_any files hs = ap least_of (where_all (map (ranked files) hs))
 least_step : (files : List StoredFile) (without : Option ElementNo) (h : Hit) (hs : List Hit)
     → least_ranked files without (h ∷ hs) ≡ lesser_with files without h (least_ranked files without hs)
 least_step files without h hs = by (is_other without (ranked files h).item)
-    ∙ ap (λ b. cond b (lesser (ranked files h) (least_ranked files without hs)) (least_ranked files without hs)) (ap (is_other without) (ranked_item (slice_get files h.member.file.0) h.member.index h))
+    ∙ ap (λ b. cond b (lesser (ranked files h) (least_ranked files without hs)) (least_ranked files without hs)) (ap (is_other without) (ranked_item
+    (slice_get files h.member.file.0) h.member.index h))
   where
     by : (b : Bool) → least_of (chosen b (ranked files h) (those_where (λ r. is_other without r.item) (map (ranked files) hs)))
         ≡ cond b (lesser (ranked files h) (least_ranked files without hs)) (least_ranked files without hs)
     by true = refl
     by false = refl
 
-pub least_next : (files : List StoredFile) (without : Option ElementNo) (hs : List Hit) (i j : ℕ) (h e : Hit) (old : Option (Ranked Hit)) → i < length hs → j ≡ suc i → h ≡ get_or hs i e
+pub least_next : (files : List StoredFile) (without : Option ElementNo) (hs : List Hit) (i j : ℕ) (h e : Hit) (old : Option (Ranked Hit)) → i < length hs
+    → j ≡ suc i → h ≡ get_or hs i e
     → old ≡ least_ranked files without (drop j hs) → lesser_with files without h old ≡ least_ranked files without (drop i hs)
 least_next files without hs i j h e old lt up is before =
-    ap (lesser_with files without h) (before ∙ ap (λ k. least_ranked files without (drop k hs)) up) ∙ sym (ap (least_ranked files without) (drop_here hs i h e lt is) ∙ least_step files without h (drop (suc i) hs))
+    ap (lesser_with files without h) (before ∙ ap (λ k. least_ranked files without (drop k hs)) up) ∙ sym (ap (least_ranked files without)
+    (drop_here hs i h e lt is) ∙ least_step files without h (drop (suc i) hs))
   where
     drop_here : (xs : List Hit) (i : ℕ) (h e : Hit) → i < length xs → h ≡ get_or xs i e → drop i xs ≡ h ∷ drop (suc i) xs
     drop_here [] i h e lt is = absurd (omega arith)
@@ -109,11 +112,13 @@ within_files files m p = let s = file_at files m p in slice_get_within files m.f
 pub hit_within : (files : List StoredFile) (hs : List Hit) (i : ℕ) (e : Hit) → AreHits files hs → i < length hs → (get_or hs i e).member.file.0 < length files
 hit_within files hs i e are lt = within_files files (get_or hs i e).member (are (get_or hs i e) (get_among hs i e lt)).0
 
-pub some_within : (files : List StoredFile) (hs : List Hit) (o : Option Hit) → AreHits files hs → IfSome o (IsMember hs) → IfSome o (λ h. h.member.file.0 < length files)
+pub some_within : (files : List StoredFile) (hs : List Hit) (o : Option Hit) → AreHits files hs → IfSome o (IsMember hs) → IfSome o
+    (λ h. h.member.file.0 < length files)
 some_within files hs None are m = tt
 some_within files hs (Some h) are m = within_files files h.member (are h m).0
 
-pub either_among : (hs : List Hit) (hit : Hit) (least o : Option Hit) → IsMember hs hit → IfSome least (IsMember hs) → IfSome o (λ r. (r ≡ hit) ⊎ (least ≡ Some r)) → IfSome o (IsMember hs)
+pub either_among : (hs : List Hit) (hit : Hit) (least o : Option Hit) → IsMember hs hit → IfSome least (IsMember hs) → IfSome o (λ r. (r ≡ hit) ⊎ (least
+    ≡ Some r)) → IfSome o (IsMember hs)
 either_among hs hit least None m n e = tt
 either_among hs hit least (Some r) m n (inl same) = subst (IsMember hs) (sym same) m
 either_among hs hit least (Some r) m n (inr same) = subst (λ o. IfSome o (IsMember hs)) same n
@@ -150,7 +155,8 @@ module _ (files : List StoredFile) (are : AreFiles files) where
   -- of different ones
   pub comes_other : (m n : MemberNo) (s t : StoredFile) → slice_get files m.file.0 ≡ Some s → slice_get files n.file.0 ≡ Some t → (m.file.0 ≡ n.file.0 → ⊥)
       → comes_before files m n ≡ stands_before s t
-  comes_other m n s t a b apart = comes_is m n s t a b ∙ ap (λ z. cond z (nat_lt m.index n.index) (in_order s.library s.name t.library t.name)) (by (pointwise nat_eq s.name t.name) refl)
+  comes_other m n s t a b apart = comes_is m n s t a b ∙ ap (λ z. cond z (nat_lt m.index n.index) (in_order s.library s.name t.library t.name)) (by
+      (pointwise nat_eq s.name t.name) refl)
     where
       by : (z : Bool) → pointwise nat_eq s.name t.name ≡ z → z ≡ false
       by true e = absurd (apart (name_once files m.file.0 n.file.0 s t are.names a b (name_exact s.name t.name e)))
@@ -163,7 +169,8 @@ module _ (files : List StoredFile) (are : AreFiles files) where
   tells m n p q h =
       let s = p in
       let t = q in
-      let told : cond (pointwise nat_eq s.0.name t.0.name) (nat_lt m.index n.index) (in_order s.0.library s.0.name t.0.library t.0.name) ≡ true = sym (comes_is m n s.0 t.0 s.1 t.1) ∙ h in
+      let told : cond (pointwise nat_eq s.0.name t.0.name) (nat_lt m.index n.index) (in_order s.0.library s.0.name t.0.library t.0.name) ≡ true = sym
+      (comes_is m n s.0 t.0 s.1 t.1) ∙ h in
       elim (bool_cases (pointwise nat_eq s.0.name t.0.name)) [
         | inl e ↦
             let less : nat_lt m.index n.index ≡ true = rw e at told in
@@ -176,7 +183,8 @@ module _ (files : List StoredFile) (are : AreFiles files) where
   tells_not m n p q h =
       let s = p in
       let t = q in
-      let told : cond (pointwise nat_eq s.0.name t.0.name) (nat_lt m.index n.index) (in_order s.0.library s.0.name t.0.library t.0.name) ≡ false = sym (comes_is m n s.0 t.0 s.1 t.1) ∙ h in
+      let told : cond (pointwise nat_eq s.0.name t.0.name) (nat_lt m.index n.index) (in_order s.0.library s.0.name t.0.library t.0.name) ≡ false = sym
+      (comes_is m n s.0 t.0 s.1 t.1) ∙ h in
       elim (bool_cases (pointwise nat_eq s.0.name t.0.name)) [
         | inl e ↦
             let less : nat_lt m.index n.index ≡ false = rw e at told in
@@ -188,8 +196,13 @@ module _ (files : List StoredFile) (are : AreFiles files) where
             inr (inl (t.0, s.0, t.1, s.1, before_other s.0.library t.0.library s.0.name t.0.name apart first))
       ]
     where
-      indexes : m.file.0 ≡ n.file.0 → nat_lt m.index n.index ≡ false → (b : Bool) → nat_eq n.index m.index ≡ b → (n ≡ m) ⊎ ComesBefore files (key_at n) (key_at m)
-      indexes one less true e = let index : n.index ≡ m.index = grind (arith, nat_tests) in inl (λ j. record { file = record { 0 = sym one j }; index = index j })
+      indexes : m.file.0 ≡ n.file.0 → nat_lt m.index n.index ≡ false → (b : Bool) → nat_eq n.index m.index ≡ b → (n ≡ m) ⊎ ComesBefore files (key_at n)
+          (key_at m)
+      indexes one less true e = let index : n.index ≡ m.index = grind (arith, nat_tests) in inl (λ j. record {
+        file =
+            record { 0 = sym one j };
+        index = index j;
+      })
       indexes one less false e = let lt : n.index < m.index = grind (arith, nat_tests) in inr (inr ((λ j. record { 0 = sym one j }), lt))
 
   -- members of which none comes before the other are one
@@ -221,7 +234,10 @@ module _ (files : List StoredFile) (are : AreFiles files) where
   ]
 
   not_itself : (m : MemberNo) → HasFile files m → comes_before files m m ≡ false
-  not_itself m p = elim (bool_cases (comes_before files m m)) [ inl b ↦ absurd (one_way files (key_at m) (key_at m) (tells m m p p b) (tells m m p p b)) | inr b ↦ b ]
+  not_itself m p = elim (bool_cases (comes_before files m m)) [
+    | inl b ↦ absurd (one_way files (key_at m) (key_at m) (tells m m p p b) (tells m m p p b))
+    | inr b ↦ b
+  ]
 
   abbrev Stand : List Hit → Type 0
   Stand hs = (h : Hit) → IsMember hs h → HasFile files h.member
@@ -251,7 +267,8 @@ module _ (files : List StoredFile) (are : AreFiles files) where
   least_is [] p a e = cc
   least_is (h ∷ hs) p a e = by (λ b some. least_is hs (λ k m. p k (inr m)) b some) (least hs) refl e
     where
-      by : ((b : Ranked Hit) → least hs ≡ Some b → IsLeast hs b) → (o : Option (Ranked Hit)) → least hs ≡ o → lesser (ranked files h) o ≡ Some a → IsLeast (h ∷ hs) a
+      by : ((b : Ranked Hit) → least hs ≡ Some b → IsLeast hs b) → (o : Option (Ranked Hit)) → least hs ≡ o → lesser (ranked files h) o ≡ Some a → IsLeast
+          (h ∷ hs) a
       by more None none e = record {
         hit = h;
         among = inl refl;
@@ -295,13 +312,15 @@ module _ (files : List StoredFile) (are : AreFiles files) where
 
   -- the least of lists with the same members are of one member
   least_same : (xs ys : List Hit) → SameMembers xs ys → Stand xs → (a b : Ranked Hit) (p : IsLeast xs a) (q : IsLeast ys b) → p.hit.member ≡ q.hit.member
-  least_same xs ys s t a b p q = tie p.hit.member q.hit.member (t p.hit p.among) (t q.hit (s.right q.hit q.among)) (q.least p.hit (s.left p.hit p.among)) (p.least q.hit (s.right q.hit q.among))
+  least_same xs ys s t a b p q = tie p.hit.member q.hit.member (t p.hit p.among) (t q.hit (s.right q.hit q.among)) (q.least p.hit (s.left p.hit p.among))
+      (p.least q.hit (s.right q.hit q.among))
 
   -- hits that lead elsewhere
   abbrev others : ElementNo → List Hit → List Hit
   others e hs = those_where (λ h. not (same_element h.element e)) hs
 
-  others_ranked : (e : ElementNo) (hs : List Hit) → those_where (λ b. not (same_element b.item.element e)) (map (ranked files) hs) ≡ map (ranked files) (others e hs)
+  others_ranked : (e : ElementNo) (hs : List Hit) → those_where (λ b. not (same_element b.item.element e)) (map (ranked files) hs) ≡ map (ranked files)
+      (others e hs)
   others_ranked e [] = refl
   others_ranked e (h ∷ hs) =
       ap (λ z. chosen (not (same_element z.element e)) (ranked files h) (those_where (λ b. not (same_element b.item.element e)) (map (ranked files) hs)))
@@ -332,7 +351,8 @@ module _ (files : List StoredFile) (are : AreFiles files) where
     right = λ k m. let f = from_others e ys k m in to_others e xs k (s.right k f.0) f.1;
   }
 
-  chosen_with : (hs : List Hit) (a : Ranked Hit) (p : IsLeast hs a) → picked_from (map (ranked files) hs) (Some a) ≡ picked_with p.hit (least (others p.hit.element hs))
+  chosen_with : (hs : List Hit) (a : Ranked Hit) (p : IsLeast hs a) → picked_from (map (ranked files) hs) (Some a) ≡ picked_with p.hit (least
+      (others p.hit.element hs))
   chosen_with hs a p =
       ap (λ z. picked_from (map (ranked files) hs) (Some z)) p.is
       ∙ (ap (λ (z : Hit). picked_with z (least_of (those_where (λ b. not (same_element b.item.element z.element)) (map (ranked files) hs))))
@@ -415,7 +435,8 @@ module _ (files : List StoredFile) (are : AreFiles files) where
               alike (Some o) (Some r) d e =
                   let u = least_is (others h.element xs) (λ j m. t j (from_others h.element xs j m).0) o d in
                   let v = least_is (others h.element ys) (λ j m. t2 j (from_others h.element ys j m).0) r e in
-                  let tied = least_same (others h.element xs) (others h.element ys) (same_others h.element xs ys s) (λ j m. t j (from_others h.element xs j m).0) o r u v in
+                  let tied = least_same (others h.element xs) (others h.element ys) (same_others h.element xs ys s) (λ j m. t j
+                  (from_others h.element xs j m).0) o r u v in
                   (λ i. Several (one i) ((member_of (others h.element xs) o u ∙ (tied ∙ sym (member_of (others h.element ys) r v))) i))
 
 -- the ranked hits of a list
@@ -458,15 +479,18 @@ module _ (files : List StoredFile) (entries : List (LinkKey × Outcome)) where
   pub pick_same : AreFiles files → (xs ys : List Hit) → SameMembers xs ys → AreHits files xs → Agrees (pick xs w) (pick ys w)
   pick_same are xs ys s t = record {
     step = pick_is xs ∙ (ap (λ (z : Picked). the_done z) (chosen_same files are xs ys s (λ h m. file_at files h.member (t h m).0)) ∙ sym (pick_is ys));
-    looks = subst (λ z. SameMembers z (pick ys w).looks) (sym (pick_looks xs)) (subst (SameMembers (files_looked xs)) (sym (pick_looks ys)) (same_looked xs ys s));
+    looks = subst (λ z. SameMembers z (pick ys w).looks) (sym (pick_looks xs)) (subst (SameMembers (files_looked xs)) (sym (pick_looks ys))
+        (same_looked xs ys s));
   }
     where
       the_done : Picked → Step LinkKey Picked
       the_done z = Done z
 
   -- and is answered by code that chose and noted the files
-  pub pick_answered : (hs : List Hit) (p : Picked) (old new : Noted) → p ≡ chosen_of files hs → new ≡ noted [] (files_looked hs) old → Answered (pick hs w) (Some p) old new
+  pub pick_answered : (hs : List Hit) (p : Picked) (old new : Noted) → p ≡ chosen_of files hs → new ≡ noted [] (files_looked hs) old → Answered (pick hs w)
+      (Some p) old new
   pick_answered hs p old new is told = record {
     step = subst (λ z. IsAnswer z (Some p) old.waits new.waits) (sym (pick_is hs)) (ap (λ z. Some z) is, ap (λ (n : Noted). n.waits) told);
-    looks = facts_noted old.looks new.looks (files_looked hs) (pick hs w).looks (ap (λ (n : Noted). n.looks) told) (same_equal (files_looked hs) (pick hs w).looks (sym (pick_looks hs)));
+    looks = facts_noted old.looks new.looks (files_looked hs) (pick hs w).looks (ap (λ (n : Noted). n.looks) told) (same_equal (files_looked hs)
+        (pick hs w).looks (sym (pick_looks hs)));
   }

@@ -46,12 +46,14 @@ map_back f [] y m = absurd m
 map_back f (x ∷ xs) y (inl e) = (x, inl refl, e)
 map_back f (x ∷ xs) y (inr m) = let more = map_back f xs y m in (more.0, inr more.1, more.2)
 
-member_in : (files : List StoredFile) (x : List ℕ) (s : Numbered) (m : MemberNo) → slice_get files s.number.0 ≡ Some s.file → IsMember (root_members x s) m → MemberStands files m
+member_in : (files : List StoredFile) (x : List ℕ) (s : Numbered) (m : MemberNo) → slice_get files s.number.0 ≡ Some s.file → IsMember (root_members x s) m
+    → MemberStands files m
 member_in files x s m at among = by s.file.model refl
   where
     by : (o : Option Data) → s.file.model ≡ o → MemberStands files m
     by None e =
-        let none : IsMember (map (λ (k : ℕ). number_of k) []) m = subst (λ (o : Option Data). IsMember (map number_of (numbers_from 0 passes (members_in_model o))) m) e among in
+        let none : IsMember (map (λ (k : ℕ). number_of k) []) m = subst (λ (o : Option Data). IsMember (map number_of (numbers_from 0 passes
+        (members_in_model o))) m) e among in
         absurd none
       where
         number_of : ℕ → MemberNo
@@ -63,15 +65,23 @@ member_in files x s m at among = by s.file.model refl
         members_in_model : Option Data → List Member
         members_in_model o = (model_in (Some (record s.file { model = o }))).members
     by (Some d) e =
-        let b = map_back (λ (k : ℕ). record { file = s.number; index = k }) (numbers_from 0 (λ n. nat_eq n.owner 0 && is_public n.visibility && bears x n) (model_in (Some s.file)).members) m among in
-        let lt : b.0 < length (model_in (Some s.file)).members = numbers_below (λ n. nat_eq n.owner 0 && is_public n.visibility && bears x n) 0 (length (model_in (Some s.file)).members) (model_in (Some s.file)).members b.0
-            (zero-add (length (model_in (Some s.file)).members)) b.1 in
-        subst (MemberStands files) b.2 (d, of_model at e, subst (λ (o : Option Data). b.0 < length (model_in (Some (record s.file { model = o }))).members) e lt)
+        let b = map_back (λ (k : ℕ). record { file = s.number; index = k }) (numbers_from 0 (λ n. nat_eq n.owner 0 && is_public n.visibility && bears x n)
+        (model_in (Some s.file)).members) m among in
+        let lt : b.0 < length (model_in (Some s.file)).members = numbers_below (λ n. nat_eq n.owner 0 && is_public n.visibility && bears x n) 0 (length
+        (model_in (Some s.file)).members) (model_in (Some s.file)).members b.0
+        (zero-add (length (model_in (Some s.file)).members)) b.1 in
+        subst (MemberStands files) b.2 (
+          d,
+          of_model at e,
+          subst (λ (o : Option Data). b.0 < length (model_in (Some
+              (record s.file { model = o }))).members) e lt,
+        )
       where
         of_model : slice_get files s.number.0 ≡ Some s.file → s.file.model ≡ Some d → model_of files s.number.0 ≡ Some d
         of_model at e = rw at e
 
-roots_in_rank : (files : List StoredFile) (x : List ℕ) (test : Numbered → Bool) (m : MemberNo) → IsMember (flat_map (root_members x) (those_where test (in_rank (numbered_from 0 files)))) m
+roots_in_rank : (files : List StoredFile) (x : List ℕ) (test : Numbered → Bool) (m : MemberNo) → IsMember (flat_map (root_members x) (those_where test
+    (in_rank (numbered_from 0 files)))) m
     → MemberStands files m
 roots_in_rank files x test m among =
     let f = among_flat (root_members x) (those_where test (in_rank (numbered_from 0 files))) m among in
@@ -79,10 +89,12 @@ roots_in_rank files x test m among =
     let place : n.0 ≡ f.0.number.0 = (let e = n.1 in omega arith) in
     member_in files x f.0 m (subst (λ k. slice_get files k ≡ Some f.0.file) place n.2) f.2
 
-pub project_stand : (files : List StoredFile) (x : List ℕ) (ms : List MemberNo) → ms ≡ project_roots files x → (m : MemberNo) → IsMember ms m → MemberStands files m
+pub project_stand : (files : List StoredFile) (x : List ℕ) (ms : List MemberNo) → ms ≡ project_roots files x → (m : MemberNo) → IsMember ms m
+    → MemberStands files m
 project_stand files x ms e m among = roots_in_rank files x (λ s. not s.file.library) m (subst (λ z. IsMember z m) e among)
 
-pub library_stand : (files : List StoredFile) (x : List ℕ) (ms : List MemberNo) → ms ≡ library_roots files x → (m : MemberNo) → IsMember ms m → MemberStands files m
+pub library_stand : (files : List StoredFile) (x : List ℕ) (ms : List MemberNo) → ms ≡ library_roots files x → (m : MemberNo) → IsMember ms m
+    → MemberStands files m
 library_stand files x ms e m among = roots_in_rank files x (λ s. s.file.library) m (subst (λ z. IsMember z m) e among)
 
 -- WHERE A MEMBER LEADS, and its hit
@@ -93,7 +105,8 @@ abbrev mapped : MemberNo → Step LinkKey (List ElementNo) → Step LinkKey (Lis
 mapped m (Done es) = Done (map (hit_at m) es)
 mapped m (Waits ks) = Waits ks
 
-hit_told : (w : LinkWorld) (m : MemberNo) (o : Option Member) → ((told o (hit m.file m.index) w).step ≡ mapped m (told o (λ x. leads_to m.file x.target) w).step)
+hit_told : (w : LinkWorld) (m : MemberNo) (o : Option Member) → ((told o (hit m.file m.index) w).step ≡ mapped m (told o
+    (λ x. leads_to m.file x.target) w).step)
     × ((told o (hit m.file m.index) w).looks ≡ (told o (λ x. leads_to m.file x.target) w).looks)
 hit_told w m None = (refl, refl)
 hit_told w m (Some x) = by (leads_to m.file x.target w).step (leads_to m.file x.target w).looks
@@ -120,13 +133,20 @@ told_regular m (Some x) = leads_regular m.file x.target
 
 element_regular : (m : MemberNo) → IsRegular (member_element m)
 element_regular m = regular_then (model m.file) (λ d. told (slice_get d.members m.index) (λ x. leads_to m.file x.target))
-    (regular_then (look (File m.file)) (λ s. done (model_in s)) (regular_look (File m.file)) (λ s. regular_done (model_in s))) (λ d. told_regular m (slice_get d.members m.index))
+    (regular_then (look (File m.file)) (λ s. done (model_in s)) (regular_look (File m.file)) (λ s. regular_done (model_in s))) (λ d. told_regular m
+    (slice_get d.members m.index))
 
 -- the hit of a member is added, where it leads somewhere
 pub joins_member : (w : LinkWorld) (m : MemberNo) (o : Option ElementNo) (found : List Hit) (old new : Noted) → Tells (member_element m w) o old new
     → Joins w (member_hit m) (trail_of [] found old) (trail_of [] (found ++ map (hit_at m) (listed o)) new)
 joins_member w m o found old new h =
-    joins_asked w (member_hit m) (record { nodes = []; found = map (hit_at m) (listed o); waits = waits_of (member_element m w).step; looks = (member_element m w).looks })
+    joins_asked w (member_hit m) (record {
+      nodes = [];
+      found = map (hit_at m) (listed o);
+      waits = waits_of (member_element m w).step;
+      looks =
+          (member_element m w).looks;
+    })
     (trail_of [] found old) (trail_of [] (found ++ map (hit_at m) (listed o)) new) (record {
       step = subst (IsStep (map (hit_at m) (listed o)) (waits_of (member_element m w).step)) (sym (hit_step w m))
           (by (member_element m w).step (member_element m w).looks ((element_regular m).sound w) h.step);
@@ -156,16 +176,19 @@ hits_more files xs ys p q = λ h m. elim (member_cases xs ys h m) [ inl a ↦ p 
 pub hit_stands : (files : List StoredFile) (m : MemberNo) (e : ElementNo) → MemberStands files m → StandsIn files e → AreHits files (hit_at m e ∷ [])
 hit_stands files m e p q = λ h. elim [ inl is ↦ subst (λ (z : Hit). MemberStands files z.member × StandsIn files z.element) is (p, q) | inr none ↦ absurd none ]
 
-module _ (w : LinkWorld) (m : MemberNo) (o : Option ElementNo) (found : List Hit) (old new : Noted) (start end : LinkTrail Hit) (begins : trail_of [] found old ≡ start)
+module _ (w : LinkWorld) (m : MemberNo) (o : Option ElementNo) (found : List Hit) (old new : Noted) (start end : LinkTrail Hit)
+    (begins : trail_of [] found old ≡ start)
     (ends : end ≡ trail_of [] (found ++ map (hit_at m) (listed o)) new) (told : Tells (member_element m w) o old new) where
   pub joins_led : Joins w (member_hit m) start end
-  joins_led = subst (λ z. Joins w (member_hit m) z end) begins (subst (Joins w (member_hit m) (trail_of [] found old)) (sym ends) (joins_member w m o found old new told))
+  joins_led = subst (λ z. Joins w (member_hit m) z end) begins (subst (Joins w (member_hit m) (trail_of [] found old)) (sym ends)
+      (joins_member w m o found old new told))
 
   pub found_led : (files : List StoredFile) → MemberStands files m → IfSome o (StandsIn files) → AreFound files start → AreFound files end
   found_led files p q before none =
       let waits : new.waits ≡ [] = sym (ap (λ (t : LinkTrail Hit). t.waits) ends) ∙ none in
       let past = (waits_before old.waits (waits_of (member_element m w).step) new.waits (ap (λ (n : Noted). n.waits) told.noted) waits).0 in
-      let first : AreHits files found = subst (AreHits files) (sym (ap (λ (t : LinkTrail Hit). t.found) begins)) (before (sym (ap (λ (t : LinkTrail Hit). t.waits) begins) ∙ past)) in
+      let first : AreHits files found = subst (AreHits files) (sym (ap (λ (t : LinkTrail Hit). t.found) begins)) (before (sym (ap (λ
+      (t : LinkTrail Hit). t.waits) begins) ∙ past)) in
       subst (AreHits files) (sym (ap (λ (t : LinkTrail Hit). t.found) ends)) (hits_more files found (map (hit_at m) (listed o)) first (one o q))
     where
       one : (o : Option ElementNo) → IfSome o (StandsIn files) → AreHits files (map (hit_at m) (listed o))

@@ -25,7 +25,8 @@ module _ (w : LinkWorld) where
   tried_none t = record { tried = λ more whole h. h }
 
   -- these decide nothing, and then those are tried
-  pub tried_on : (ts us : List (Lookup (List Hit))) (b : Bool) (old mid new : LinkTrail Hit) → Tried w ts false old mid → Tried w us b mid new → Tried w (ts ++ us) b old new
+  pub tried_on : (ts us : List (Lookup (List Hit))) (b : Bool) (old mid new : LinkTrail Hit) → Tried w ts false old mid → Tried w us b mid new → Tried w (ts
+      ++ us) b old new
   tried_on ts us b old mid new p q = record {
     tried = λ more whole h. q.tried more whole (p.tried (us ++ more) whole (subst (λ cs. Reaches false old (first_of cs w) whole) (append_assoc ts us more) h));
   }
@@ -46,7 +47,11 @@ module _ (w : LinkWorld) where
         ap (λ (t : LinkTrail Hit). t.found) empty,
         ap (λ (t : LinkTrail Hit). t.waits) empty,
         subst (λ cs. Leads start.looks (first_of cs w) (first_of ts w)) (sym (append-nil ts))
-            (subst (λ (t : LinkTrail Hit). Leads t.looks (first_of ts w) (first_of ts w)) (sym empty) (record { step = refl; looks = same_members (first_of ts w).looks })),
+            (subst (λ (t : LinkTrail Hit). Leads t.looks (first_of ts w) (first_of ts w)) (sym empty) (record {
+              step = refl;
+              looks = same_members
+                  (first_of ts w).looks;
+            })),
       )
 
       by : (b : Bool) → Reaches b new (first_of {A = Hit} [] w) (first_of ts w) → IsAsked new (first_of ts w)
@@ -66,20 +71,27 @@ module _ (w : LinkWorld) where
   pub tried_here : (c : Lookup (List Hit)) (g old new : LinkTrail Hit) (b : Bool) → IsAsked g (c w) → b ≡ decides g
       → new.found ≡ g.found → new.waits ≡ marked_all same_key old.waits g.waits → new.looks ≡ marked_all same_fact old.looks g.looks
       → Tried w (c ∷ []) b old new
-  tried_here c g old new b a is found waits looks = record { tried = λ more whole h. by more whole (c w).step (c w).looks g.found g.waits a.step a.looks b is found waits h }
+  tried_here c g old new b a is found waits looks = record {
+    tried = λ more whole h. by more whole (c w).step
+        (c w).looks g.found g.waits a.step a.looks b is found waits h;
+  }
     where
       seen : (ls rest : List (Fact LinkKey LinkFact)) → SameMembers g.looks ls → SameMembers (old.looks ++ (ls ++ rest)) (new.looks ++ rest)
       seen ls rest l = subst (λ z. SameMembers z (new.looks ++ rest)) (append_assoc old.looks ls rest)
           (same_joined (old.looks ++ ls) rest new.looks rest (same_back (facts_noted old.looks new.looks g.looks ls looks l)) (same_members rest))
 
-      by : (more : List (Lookup (List Hit))) (whole : Asks (List Hit)) (step : Step LinkKey (List Hit)) (ls : List (Fact LinkKey LinkFact)) (fs : List Hit) (ws : List LinkKey)
-          → IsStep fs ws step → SameMembers g.looks ls → (b : Bool) → b ≡ (not (is_nil ws) || not (is_nil fs)) → new.found ≡ fs → new.waits ≡ marked_all same_key old.waits ws
-          → (old.found ≡ []) × (old.waits ≡ []) × Leads old.looks (then_step (record { step = step; looks = ls }) (λ xs. cond (is_nil xs) (first_of more) (done xs) w) step) whole
+      by : (more : List (Lookup (List Hit))) (whole : Asks (List Hit)) (step : Step LinkKey (List Hit)) (ls : List (Fact LinkKey LinkFact)) (fs : List Hit)
+          (ws : List LinkKey)
+          → IsStep fs ws step → SameMembers g.looks ls → (b : Bool) → b ≡ (not (is_nil ws) || not (is_nil fs)) → new.found ≡ fs → new.waits
+          ≡ marked_all same_key old.waits ws
+          → (old.found ≡ []) × (old.waits ≡ []) × Leads old.looks (then_step (record { step = step; looks = ls }) (λ xs. cond (is_nil xs) (first_of more)
+          (done xs) w) step) whole
           → Reaches b new (first_of more w) whole
       by more whole (Done ys) ls [] [] s l true is f ws h = cc
       by more whole (Done ys) ls [] [] s l false is f ws h =
           let none : ys ≡ [] = no_member ys s in
-          let led = subst (λ zs. Leads old.looks (then_step (record { step = Done zs; looks = ls }) (λ xs. cond (is_nil xs) (first_of more) (done xs) w) (Done zs)) whole) none h.2 in
+          let led = subst (λ zs. Leads old.looks (then_step (record { step = Done zs; looks = ls }) (λ xs. cond (is_nil xs) (first_of more) (done xs) w)
+          (Done zs)) whole) none h.2 in
           (f, ws ∙ h.1, record { step = led.step; looks = same_through led.looks (seen ls (first_of more w).looks l) })
       by more whole (Done []) ls (x ∷ fs) [] s l b is f ws h = absurd (s.left x (inl refl))
       by more whole (Done (y ∷ ys)) ls (x ∷ fs) [] s l false is f ws h = cc
@@ -101,7 +113,8 @@ module _ (w : LinkWorld) where
           }
 
 -- where nothing is waited on afterwards, the tier waited on nothing
-pub found_kept : (files : List StoredFile) (g old new : LinkTrail Hit) → new.found ≡ g.found → new.waits ≡ marked_all same_key old.waits g.waits → AreFound files g → AreFound files new
+pub found_kept : (files : List StoredFile) (g old new : LinkTrail Hit) → new.found ≡ g.found → new.waits ≡ marked_all same_key old.waits g.waits
+    → AreFound files g → AreFound files new
 found_kept files g old new found waits h none = subst (AreHits files) (sym found) (h (by g.waits refl))
   where
     by : (ws : List LinkKey) → g.waits ≡ ws → g.waits ≡ []

@@ -138,7 +138,9 @@ fn all_imported<T: Lookups>(
     let mut gains = Gains::new(alloc);
     let numbers = model.imports_of(at.index);
     for index in numbers {
-        add_import(alloc, lookups, view, model, at, before, name, *index, &mut gains)?;
+        add_import(
+            alloc, lookups, view, model, at, before, name, *index, &mut gains,
+        )?;
     }
     Ok(gains)
 }

@@ -110,7 +110,8 @@ fn lesser_with(
 /// The least of the hits that lead to another element than this one, if there is one.
 pub(crate) fn least(models: &Models, without: Option<ElementNo>, hits: &[Hit]) -> Option<Hit>
     requires { AreHits models.now hits.now }
-    ensures least { option_map (ranked models.now) result ≡ least_ranked models.now without hits.now }
+    ensures least { option_map (ranked models.now) result
+        ≡ least_ranked models.now without hits.now }
     ensures among { IfSome result (IsMember hits.now) }
 {
     let mut least = None;

@@ -30,4 +30,5 @@ returns-clause-asked g c =
     let w = read_by c.args.view.now in
     let part = import_part (library_of (files_of c.args.view.now)) c.args.name.now c.args.before c.args.at c.args.model.now in
     subst (λ ns. IsAsked c.loop-index.gains (joined part ns w)) c.imports_of-numbers.ensures.lent
-    (asked_all w part c.imports_of-numbers.result.now c.loop-index.index-index c.loop-index.gains (let end = c.loop-index-test.false in omega arith) c.loop-index.invariant.0)
+    (asked_all w part c.imports_of-numbers.result.now c.loop-index.index-index c.loop-index.gains
+    (let end = c.loop-index-test.false in omega arith) c.loop-index.invariant.0)

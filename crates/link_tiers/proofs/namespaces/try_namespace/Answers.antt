@@ -54,7 +54,8 @@ returns-clause-tried g c =
     four_last w (declared x n) (effective x n) (inherited_tier lib x n) (imports_of_all lib x n) c.args.gains.now c.try_tier.new.gains c.try_tier-2.new.gains
     c.in_ok-first.first (c.in_ok-first.ensures.tried w (declared x n) c.in_ok-declared.ensures.asked) c.if-first.false
     c.try_tier-3.new.gains c.in_ok-second.second (c.in_ok-second.ensures.tried w (effective x n) c.in_ok-effective.ensures.asked) c.if-second.false
-    c.try_tier-4.new.gains c.in_ok-third.third c.in_ok-decided.decided (c.in_ok-third.ensures.tried w (inherited_tier lib x n) c.in_ok-inherited.ensures.asked) c.if-third.false
+    c.try_tier-4.new.gains c.in_ok-third.third c.in_ok-decided.decided (c.in_ok-third.ensures.tried w
+    (inherited_tier lib x n) c.in_ok-inherited.ensures.asked) c.if-third.false
     (c.in_ok-decided.ensures.tried w (imports_of_all lib x n) c.in_ok-imported.ensures.asked)
 
 pub returns-clause-found : goal.returns-clause-found

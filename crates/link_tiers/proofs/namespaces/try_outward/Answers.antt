@@ -10,7 +10,8 @@ use Rattle.link_tiers.proofs.namespaces.try_outward.Goals as goal
 
 pub loop-at-init : goal.loop-at-init
 loop-at-init g c = (
-  λ is. way_begins (read_by c.args.view.now) (library_of (files_of c.args.view.now)) c.args.name.now c.args.model.now is c.args.file c.args.from c.args.gains.now,
+  λ is. way_begins (read_by c.args.view.now) (library_of
+      (files_of c.args.view.now)) c.args.name.now c.args.model.now is c.args.file c.args.from c.args.gains.now,
   c.requires.from,
   λ before. before,
 )
