@@ -1,0 +1,13 @@
+pub mod BareWalk
+pub mod Readings
+pub mod States
+pub mod Rules
+pub mod Names
+pub mod Expressions
+pub mod Leaves
+pub mod Erased
+pub mod Cutting
+pub mod Edges
+pub mod Begun
+pub mod Layouts
+pub mod Values

@@ -1,0 +1,7 @@
+pub mod Printed
+pub mod Trees
+pub mod Unplaced
+pub mod Layout
+pub mod Heads
+pub mod Neighbours
+pub mod ReadBack

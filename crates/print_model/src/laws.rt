@@ -1,0 +1,15 @@
+//! Laws of canonical text. Each is a function with nothing to run: what it ensures holds of the
+//! definitions alone.
+ghost use Rattle.print_model.specs.ReadBack.{ExpressionsReadBack, PrintedTokensLex};
+
+/// A law: in both languages, each expression that can be printed is read back. The grammar derives its
+/// printed tokens, and the walk over that derivation pushes exactly its nodes, in postfix order.
+pub fn expressions_read_back()
+    ensures { ExpressionsReadBack }
+{}
+
+/// A law: printed tokens with white space between them are the tokens of their bytes, where each of
+/// them is the longest piece at its place.
+pub fn printed_tokens_lex()
+    ensures { PrintedTokensLex }
+{}

@@ -1,0 +1,6 @@
+//! The canonical text of a model, and that it reads back.
+#![tactic(auto)]
+
+mod laws;
+
+pub use laws::{expressions_read_back, printed_tokens_lex};
