@@ -1,6 +1,5 @@
 -- The printed text is its tokens with the space behind each, and a tree is the one that its nodes spell.
 use Rattle.std.proofs.Common.{◌≡◌, ℕ, List, [], ◌∷◌, ◌++◌, refl, ap, sym, ◌∙◌, append_assoc, append-nil}
-use Rattle.std.specs.Prelude.{pos}
 use Rattle.element_store.specs.declared.expression.Node.{Node}
 use Rattle.element_store.specs.declared.expression.Node.TheVariants as node
 use Rattle.element_store.specs.Model.{Data}
@@ -8,7 +7,8 @@ use Rattle.print_model.specs.Printed.{Printed}
 use Rattle.print_model.specs.Trees.{Tree, Integer, Boolean, Text, Null, Named, Before, Between, Choice}
 use Rattle.print_model.specs.Layout.{Line, gap, set, indent, line_bytes, text_of}
 use Rattle.print_model.specs.Neighbours.{Put, bytes_in, puts_in, puts_of}
-use Rattle.print_model.specs.Heads.{path_at, standing, spelt}
+use Rattle.print_model.specs.Heads.{standing, spelt}
+use Rattle.print_model.specs.Spelt.{IsSpelt}
 
 -- each line has a token
 abbrev pub HasTokens : List Printed → Type 0
@@ -49,18 +49,6 @@ text_puts (l ∷ m ∷ ls) h =
 spelt_on : (d : Data) (xs ys : List Node) (ts : List Tree) → spelt d (xs ++ ys) ts ≡ spelt d ys (spelt d xs ts)
 spelt_on d [] ys ts = refl
 spelt_on d (x ∷ xs) ys ts = spelt_on d xs ys (standing d x ts)
-
--- the nodes of a tree, where each name has the number of a reference with its path
-abbrev pub IsSpelt : Data → List Node → Tree → Type 0
-IsSpelt d ns (Integer n) = ns ≡ node.Integer (pos n) ∷ []
-IsSpelt d ns (Boolean b) = ns ≡ node.Boolean b ∷ []
-IsSpelt d ns (Text bytes) = ns ≡ node.Text bytes ∷ []
-IsSpelt d ns Null = ns ≡ node.Null ∷ []
-IsSpelt d ns (Named p) = (r : ℕ) × (ns ≡ node.Named r ∷ []) × (path_at d r ≡ p)
-IsSpelt d ns (Before o a) = (xs : List Node) × IsSpelt d xs a × (ns ≡ xs ++ node.Unary o ∷ [])
-IsSpelt d ns (Between o a b) = (xs : List Node) × (ys : List Node) × IsSpelt d xs a × IsSpelt d ys b × (ns ≡ xs ++ (ys ++ node.Binary o ∷ []))
-IsSpelt d ns (Choice a b c) = (xs : List Node) × (ys : List Node) × (zs : List Node) × IsSpelt d xs a × IsSpelt d ys b × IsSpelt d zs c
-    × (ns ≡ xs ++ (ys ++ (zs ++ node.If ∷ [])))
 
 -- what printing reads from them is that tree
 pub spelt_is : (d : Data) (ns : List Node) (t : Tree) (ts : List Tree) → IsSpelt d ns t → spelt d ns ts ≡ t ∷ ts

@@ -11,3 +11,6 @@ pub mod Edges
 pub mod Begun
 pub mod Layouts
 pub mod Values
+pub mod SpeltTrees
+pub mod ValueNodes
+pub mod TreeLaws

@@ -4,4 +4,5 @@ pub mod Unplaced
 pub mod Layout
 pub mod Heads
 pub mod Neighbours
+pub mod Spelt
 pub mod ReadBack

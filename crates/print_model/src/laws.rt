@@ -1,11 +1,18 @@
 //! Laws of canonical text. Each is a function with nothing to run: what it ensures holds of the
 //! definitions alone.
+ghost use Rattle.print_model.specs.Spelt.{ExpressionsHaveTrees};
 ghost use Rattle.print_model.specs.ReadBack.{ExpressionsReadBack, PrintedTokensLex};
 
 /// A law: in both languages, each expression that can be printed is read back. The grammar derives its
 /// printed tokens, and the walk over that derivation pushes exactly its nodes, in postfix order.
 pub fn expressions_read_back()
     ensures { ExpressionsReadBack }
+{}
+
+/// A law: each value and each result of a model that a text has is an expression that can be printed.
+/// Its nodes are the postfix list of one tree, whose integers are values and whose names have segments.
+pub fn expressions_have_trees()
+    ensures { ExpressionsHaveTrees }
 {}
 
 /// A law: printed tokens with white space between them are the tokens of their bytes, where each of

@@ -3,4 +3,4 @@
 
 mod laws;
 
-pub use laws::{expressions_read_back, printed_tokens_lex};
+pub use laws::{expressions_have_trees, expressions_read_back, printed_tokens_lex};
