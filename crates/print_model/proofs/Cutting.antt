@@ -12,7 +12,8 @@ use Rattle.print_model.specs.Layout.{gap}
 use Rattle.print_model.specs.ReadBack.{PrintedTokensLex}
 use Rattle.print_model.specs.Neighbours.{Put, bytes_in, space_piece, pieces_in, IsGap, ArePut}
 
-cut_space : (l : Language) (g more : List ℕ) (ps : List Piece) → IsGap l g more → Cut l ps more [] → Cut l (space_piece g ++ ps) (g ++ more) []
+-- white space, and what is cut behind it
+pub cut_space : (l : Language) (g more : List ℕ) (ps : List Piece) → IsGap l g more → Cut l ps more [] → Cut l (space_piece g ++ ps) (g ++ more) []
 cut_space l [] more ps gap cut = cut
 cut_space l (b ∷ bs) more ps gap cut = (more, refl, gap, cut)
 
@@ -27,7 +28,8 @@ part before bytes more =
     ap (λ n. take n (drop (length before) (before ++ (bytes ++ more)))) (omega arith)
     ∙ (ap (take (length bytes)) (drop-append_seam before (bytes ++ more)) ∙ take-append_seam bytes more)
 
-space_tokens : (at : ℕ) (g : List ℕ) (ps : List Piece) → tokens_from at (space_piece g ++ ps) ≡ tokens_from (at + length g) ps
+-- white space is no token
+pub space_tokens : (at : ℕ) (g : List ℕ) (ps : List Piece) → tokens_from at (space_piece g ++ ps) ≡ tokens_from (at + length g) ps
 space_tokens at [] ps = ap (λ n. tokens_from n ps) (omega arith)
 space_tokens at (b ∷ bs) ps = refl
 

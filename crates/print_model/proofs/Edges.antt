@@ -137,7 +137,8 @@ sign_some : (size n : ℕ) (text : List ℕ) → size ≤ length text → place_
     → sign_of size text ≡ Some (found_of (Kept (Sign n)) size)
 sign_some size n text le e = rw (e, le-leb size (length text) le) refl
 
-one_at : (b n : ℕ) (more : List ℕ) → place_in signs (b ∷ []) ≡ Some n → Stops (b ∷ []) more → sign_at (b ∷ more) ≡ Some (found_of (Kept (Sign n)) 1)
+-- a sign of one byte is found where none goes on
+pub one_at : (b n : ℕ) (more : List ℕ) → place_in signs (b ∷ []) ≡ Some n → Stops (b ∷ []) more → sign_at (b ∷ more) ≡ Some (found_of (Kept (Sign n)) 1)
 one_at b n [] e stops = rw e refl
 one_at b n (c ∷ cs) e stops =
     ap (λ f. first_of_two f (first_of_two (sign_of 2 (b ∷ c ∷ cs)) (sign_of 1 (b ∷ c ∷ cs)))) (sign_none 3 (b ∷ c ∷ cs) (stops (take 1 cs)))
@@ -176,14 +177,16 @@ sign_ends_three l a b c n more other e = found_is l (Kept (Sign n)) (a ∷ b ∷
 abbrev pub is_inside : ℕ → Bool
 is_inside c = is_word c || (is_space c || ((c == 39) || (c == 34)))
 
-abbrev stands_outside : List ℕ → Bool
+-- none of its bytes is such a byte
+abbrev pub stands_outside : List ℕ → Bool
 stands_outside bytes = list_all (λ c. not (is_inside c)) bytes
 
 signs_outside : list_all stands_outside signs ≡ true
 unfolding signs
 signs_outside = refl
 
-outside_behind : (bytes xs : List ℕ) (c : ℕ) → is_inside c ≡ true → stands_outside (bytes ++ c ∷ xs) ≡ false
+-- what has such a byte stands apart from them
+pub outside_behind : (bytes xs : List ℕ) (c : ℕ) → is_inside c ≡ true → stands_outside (bytes ++ c ∷ xs) ≡ false
 outside_behind [] xs c e = rw e refl
 outside_behind (b ∷ bs) xs c e = elim (bool_cases (is_inside b)) [
   | inl hit ↦ rw hit refl

@@ -14,3 +14,8 @@ pub mod Values
 pub mod SpeltTrees
 pub mod ValueNodes
 pub mod TreeLaws
+pub mod Following
+pub mod Joints
+pub mod OperandChains
+pub mod HeadChains
+pub mod LineChains

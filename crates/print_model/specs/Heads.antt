@@ -465,6 +465,10 @@ body_lines (suc steps) d level e =
     flat_map (item_lines (λ l c. body_lines steps d l c) d level) (items_at d e)
     ++ result_lines d level (element_at d e).result
 
+-- the lines of a model
+abbrev pub model_lines : Data → List Line
+model_lines d = body_lines (suc (length d.elements)) d 0 0
+
 -- the canonical text
 abbrev pub printed_text : Data → List ℕ
-printed_text d = text_of (body_lines (suc (length d.elements)) d 0 0)
+printed_text d = text_of (model_lines d)

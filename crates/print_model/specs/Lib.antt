@@ -4,5 +4,6 @@ pub mod Unplaced
 pub mod Layout
 pub mod Heads
 pub mod Neighbours
+pub mod Written
 pub mod Spelt
 pub mod ReadBack

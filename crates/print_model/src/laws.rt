@@ -1,6 +1,7 @@
 //! Laws of canonical text. Each is a function with nothing to run: what it ensures holds of the
 //! definitions alone.
 ghost use Rattle.print_model.specs.Spelt.{ExpressionsHaveTrees};
+ghost use Rattle.print_model.specs.Written.{WrittenTextsLex};
 ghost use Rattle.print_model.specs.ReadBack.{ExpressionsReadBack, PrintedTokensLex};
 
 /// A law: in both languages, each expression that can be printed is read back. The grammar derives its
@@ -19,4 +20,10 @@ pub fn expressions_have_trees()
 /// them is the longest piece at its place.
 pub fn printed_tokens_lex()
     ensures { PrintedTokensLex }
+{}
+
+/// A law: the canonical text of a model has just the tokens that were printed, wherever its names and
+/// texts can be spelt, its words are those of its language and its comments end where they close.
+pub fn written_texts_lex()
+    ensures { WrittenTextsLex }
 {}

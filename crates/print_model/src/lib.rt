@@ -3,4 +3,6 @@
 
 mod laws;
 
-pub use laws::{expressions_have_trees, expressions_read_back, printed_tokens_lex};
+pub use laws::{
+    expressions_have_trees, expressions_read_back, printed_tokens_lex, written_texts_lex,
+};
