@@ -1,5 +1,5 @@
 -- Printed tokens of a list, each with what follows: they are put so that the text is cut at them.
-use Rattle.std.proofs.Common.{◌≡◌, ℕ, Bool, true, false, List, [], ◌∷◌, ◌++◌, refl, sym, subst, ◌∙◌, inl, inr, arith, ◌⊎◌}
+use Rattle.std.proofs.Common.{◌≡◌, ℕ, zero, suc, ◌<◌, Bool, true, false, List, [], ◌∷◌, ◌++◌, refl, sym, subst, ◌∙◌, inl, inr, arith, ◌⊎◌}
 use Rattle.std.specs.Prelude.{Option, Some, None, cond, ◌==◌, ◌||◌, ◌&&◌, not, is_none}
 use Rattle.std.specs.List.{list_all}
 use Rattle.std.proofs.lemmas.Bool.Decides.{nat_tests}
@@ -16,6 +16,10 @@ use Rattle.token_core.specs.Pieces.{IsLongest, IsBasicName, IsSomeRun, IsUpToClo
 use Rattle.token_core.specs.Scan.{class_of}
 use Rattle.token_core.specs.Spelling.{name_spelling, string_spelling, is_basic_name}
 use Rattle.token_core.specs.Reading.{IsSpellable}
+use Rattle.std.specs.Prelude.{IsUtf8, nat_lt}
+use Rattle.std.specs.Str.{IsAscii}
+use Rattle.std.proofs.lemmas.Str.{IsUtf8-append, IsUtf8-nil, IsUtf8-from_ascii}
+use Rattle.token_core.proofs.Characters.{word_utf8, quoted_utf8}
 use Rattle.token_core.proofs.Signs.{place_has, is_other, is_sign_form, sign_form}
 use Rattle.print_model.specs.Printed.{Printed}
 use Rattle.print_model.specs.Layout.{gap}
@@ -28,7 +32,7 @@ IsFitKind l Name bytes = (s : List ℕ) × IsSpellable s × (bytes ≡ name_spel
 IsFitKind l (Word n) bytes = IsBasicName bytes × (place_in (words l) bytes ≡ Some n)
 IsFitKind l Integer bytes = IsSomeRun is_digit bytes
 IsFitKind l Quote bytes = (s : List ℕ) × IsSpellable s × (bytes ≡ string_spelling s)
-IsFitKind l Comment bytes = (s : List ℕ) × IsUpToClose s × (bytes ≡ 47 ∷ 42 ∷ s)
+IsFitKind l Comment bytes = (s : List ℕ) × IsUpToClose s × IsUtf8 s × (bytes ≡ 47 ∷ 42 ∷ s)
 IsFitKind l (Sign n) bytes = place_in signs bytes ≡ Some n
 
 -- a token as it is printed
@@ -111,7 +115,7 @@ fit_longest l Name bytes c cs h f = subst (λ xs. IsLongest l (Kept Name) xs (c 
 fit_longest l (Word n) bytes c cs h f = word_ends l bytes (c ∷ cs) n h.0 h.1 f
 fit_longest l Integer bytes c cs h f = number_ends l bytes (c ∷ cs) h (no_digit c f)
 fit_longest l Quote bytes c cs h f = subst (λ xs. IsLongest l (Kept Quote) xs (c ∷ cs)) (sym h.2) (string_ends l h.0 (c ∷ cs) h.1.each)
-fit_longest l Comment bytes c cs h f = subst (λ xs. IsLongest l (Kept Comment) xs (c ∷ cs)) (sym h.2) (comment_ends l h.0 (c ∷ cs) h.1)
+fit_longest l Comment bytes c cs h f = subst (λ xs. IsLongest l (Kept Comment) xs (c ∷ cs)) (sym h.3) (comment_ends l h.0 (c ∷ cs) h.1)
 fit_longest l (Sign n) bytes c cs h f = sign_longest l n bytes c cs (sign_form bytes n h) h f
 
 -- white space may follow any token
@@ -183,7 +187,7 @@ fit_black l (Word n) bytes h = basic_black bytes h.0
 fit_black l Integer [] h = elim h [ ]
 fit_black l Integer (b ∷ bs) h = digit_black b h.0
 fit_black l Quote bytes h = subst BeginsBlack (sym h.2) refl
-fit_black l Comment bytes h = subst BeginsBlack (sym h.2) refl
+fit_black l Comment bytes h = subst BeginsBlack (sym h.3) refl
 fit_black l (Sign n) bytes h = black_is bytes (place_has is_black signs bytes n signs_black h)
 
 -- where no space stands between two tokens, the second's first byte may follow the first
@@ -261,3 +265,59 @@ line_put l p (q ∷ ps) after rest h c b black put =
     first_put l p q [] after rest h k a = one_put l p q (after ++ bytes_in rest) h k a (puts_black l q [] after rest k) (gap p q) refl (gap_is _)
     first_put l p q (r ∷ ps) after rest h k a = one_put l p q (gap q r ++ bytes_in (puts_in (r ∷ ps) after ++ rest)) h k a
         (puts_black l q (r ∷ ps) after rest k) (gap p q) refl (gap_is _)
+
+-- Tokens are UTF-8.
+
+run_through : (p q : ℕ → Bool) → ((b : ℕ) → p b ≡ true → q b ≡ true) → (bs : List ℕ) → IsRun p bs → IsRun q bs
+run_through p q on [] h = tt
+run_through p q on (b ∷ bs) h = (on b h.0, run_through p q on bs h.1)
+
+letter_word : (b : ℕ) → is_letter b ≡ true → is_word b ≡ true
+letter_word b e = grind (arith, nat_tests)
+
+digit_word : (b : ℕ) → is_digit b ≡ true → is_word b ≡ true
+digit_word b e = grind (arith, nat_tests)
+
+basic_utf8 : (bs : List ℕ) → IsBasicName bs → IsUtf8 bs
+basic_utf8 [] h = elim h [ ]
+basic_utf8 (b ∷ bs) h = word_utf8 (b ∷ bs) (letter_word b h.0, h.1)
+
+digits_utf8 : (bs : List ℕ) → IsSomeRun is_digit bs → IsUtf8 bs
+digits_utf8 [] h = elim h [ ]
+digits_utf8 (b ∷ bs) h = word_utf8 (b ∷ bs) (run_through is_digit is_word digit_word (b ∷ bs) h)
+
+abbrev is_low : List ℕ → Bool
+is_low bs = list_all (λ b. nat_lt b 128) bs
+
+signs_low : list_all is_low signs ≡ true
+unfolding signs
+signs_low = refl
+
+one_ascii : (b : ℕ) → b < 128 → IsAscii (b ∷ [])
+one_ascii b small zero = small
+one_ascii b small (suc i) = omega arith
+
+-- bytes below 128
+pub low_utf8 : (bs : List ℕ) → is_low bs ≡ true → IsUtf8 bs
+low_utf8 [] e = IsUtf8-nil
+low_utf8 (b ∷ bs) e =
+    let h = both_true (nat_lt b 128) (is_low bs) e in
+    IsUtf8-append (b ∷ []) bs (IsUtf8-from_ascii (b ∷ []) (one_ascii b (small b h.0))) (low_utf8 bs h.1)
+  where
+    small : (b : ℕ) → nat_lt b 128 ≡ true → b < 128
+    small b e = grind (arith, nat_tests)
+
+-- a token is UTF-8
+pub fit_utf8 : (l : Language) (k : TokenKind) (bytes : List ℕ) → IsFitKind l k bytes → IsUtf8 bytes
+fit_utf8 l Name bytes h = subst IsUtf8 (sym h.2) (spelt_utf8 l h.0 h.1.utf8)
+  where
+    spelt_utf8 : (l : Language) (s : List ℕ) → IsUtf8 s → IsUtf8 (name_spelling l s)
+    spelt_utf8 l s u = elim (bool_cases (is_basic_name s && is_none (place_in (words l) s))) [
+      | inl bare ↦ rw bare u
+      | inr other ↦ rw other (quoted_utf8 39 s (omega arith) u)
+    ]
+fit_utf8 l (Word n) bytes h = basic_utf8 bytes h.0
+fit_utf8 l Integer bytes h = digits_utf8 bytes h
+fit_utf8 l Quote bytes h = subst IsUtf8 (sym h.2) (quoted_utf8 34 h.0 (omega arith) h.1.utf8)
+fit_utf8 l Comment bytes h = subst IsUtf8 (sym h.3) (IsUtf8-append (47 ∷ 42 ∷ []) h.0 (low_utf8 (47 ∷ 42 ∷ []) refl) h.2)
+fit_utf8 l (Sign n) bytes h = low_utf8 bytes (place_has is_low signs bytes n signs_low h)

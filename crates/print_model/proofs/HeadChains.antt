@@ -3,6 +3,7 @@ use Rattle.std.proofs.Common.{◌≡◌, ℕ, Bool, true, false, List, [], ◌�
 use Rattle.std.specs.Prelude.{Option, Some, None, cond, is_some, map, codes}
 use Rattle.std.specs.List.{list_all}
 use Rattle.std.specs.Fmt.{signed_decimal}
+use Rattle.std.proofs.lemmas.Str.{IsUtf8-append}
 use Rattle.linker_base.proofs.Cases.{both_true}
 use Rattle.element_store.specs.Numbers.{those_where, chosen}
 use Rattle.element_store.specs.declared.outcome.Language.{Language}
@@ -35,7 +36,7 @@ use Rattle.print_model.specs.Trees.{named, printed}
 use Rattle.print_model.specs.Heads.{element_at, references_in, path_in, path_at, first_tree, expression, word_if, visibility_word, member_visibility, part_words, direction_words, prefixes, kind_word, kind_words, short_name, declared_name, names, is_specialisation, is_about, role_sign, goes_on, specialisations, listed, abouts, limit_tokens, limits_in, bounds_tokens, value_tokens, ends_of, end_name, end_tokens, end_list, ends_tokens, before_names, head, locale_tokens, body_bytes, note_tokens, alias_tokens, star_tokens, import_tokens}
 use Rattle.print_model.specs.Written.{IsWrittenPath, is_word_of, IsSpellableIn, IsWrittenLimit, AreWrittenBounds, AreWrittenNodes, is_kind_of, is_part_of, IsWrittenElement, HasWords, CanBeWritten}
 use Rattle.print_model.proofs.Edges.{stops_sign}
-use Rattle.print_model.proofs.Following.{Apart}
+use Rattle.print_model.proofs.Following.{low_utf8, Apart}
 use Rattle.print_model.proofs.Joints.{Closing, closing_apart, Taking, Ready, ready_apart, inside_opens, sign_fit, sign_taking, sign_closes, Loose, spaced_apart, Passes, passes_none, passes_more, passes_on, passes_from, passes_to}
 use Rattle.print_model.proofs.OperandChains.{name_inside, name_fit, name_closes, name_passes, word_passes, number_passes, text_passes, sign_passes, named_passes, printed_passes, opening_passes, closing_passes, from_closing, close_closes}
 
@@ -652,7 +653,8 @@ note_passes d v n w k =
     (abouts_go d.language (references_in d is_about n) (every_where _ _ d.references w.references))
     (passes_on d.language Closing Closing Anything (locale_tokens d.language e.locale) (note (body_bytes e.body) ∷ [])
     (locale_goes d.language e.locale h.locale)
-    (passes_more d.language Closing Anything Anything (note (body_bytes e.body)) [] (body_bytes e.body ++ codes "*/", h.body, refl)
+    (passes_more d.language Closing Anything Anything (note (body_bytes e.body)) []
+    (body_bytes e.body ++ codes "*/", h.body, IsUtf8-append (body_bytes e.body) (codes "*/") h.said (low_utf8 (codes "*/") refl), refl)
     (λ p c. closing_apart p (note (body_bytes e.body)) c) tt (passes_none d.language Anything))))
 
 semicolon_passes : (l : Language) → Goes l (sign (codes ";") ∷ [])

@@ -2,6 +2,8 @@
 use Rattle.std.proofs.Common.{◌≡◌, ℕ, zero, suc, ◌+◌, Bool, true, false, List, [], ◌∷◌, ◌++◌, length, refl, ap, sym, subst, ◌∙◌, inl, inr, ◌⊎◌, arith}
 use Rattle.std.specs.Prelude.{Option, Some, None, cond, map, codes, slice_index_or}
 use Rattle.std.specs.List.{flat_map}
+use Rattle.std.specs.Prelude.{IsUtf8}
+use Rattle.std.proofs.lemmas.Str.{IsUtf8-append, IsUtf8-nil}
 use Rattle.std.proofs.lemmas.List.{map-append}
 use Rattle.std.proofs.lemmas.Simd.{map-map}
 use Rattle.element_store.specs.declared.outcome.Language.{Language}
@@ -18,13 +20,13 @@ use Rattle.token_core.specs.Lex.{tokens_from}
 use Rattle.text_laws.specs.Fits.{Every}
 use Rattle.text_laws.proofs.FittingLaws.{every_append}
 use Rattle.print_model.specs.Printed.{Printed, sign, name, heard}
-use Rattle.print_model.specs.Layout.{Line, is_among, indent, text_of}
+use Rattle.print_model.specs.Layout.{Line, is_among, gap, set, indent, line_bytes, text_of}
 use Rattle.print_model.specs.Heads.{element_at, member_at, items_at, no_import, is_end, is_note, is_about, references_in, before_names, abouts, member_visibility, locale_tokens, head, note_tokens, alias_tokens, import_tokens, expression, line, with_body, result_lines, element_lines, target_lines, item_lines, body_lines, model_lines}
 use Rattle.print_model.specs.Neighbours.{Put, bytes_in, space_piece, pieces_in, IsGap, ArePut, puts_in, after_line, puts_of}
 use Rattle.print_model.specs.ReadBack.{HasTokens}
 use Rattle.print_model.specs.Written.{WrittenTextsLex, AreWrittenNodes, IsWrittenItem, IsWrittenTarget, HasWords, CanBeWritten}
 use Rattle.print_model.proofs.Edges.{Ends}
-use Rattle.print_model.proofs.Following.{IsFit, Apart, Chained, IsBreak, line_put, puts_black, break_gap}
+use Rattle.print_model.proofs.Following.{low_utf8, fit_utf8, IsFit, Apart, Chained, IsBreak, line_put, puts_black, break_gap}
 use Rattle.print_model.proofs.Joints.{Closing, closing_apart, sign_taking, Ready, ready_apart, spaced_apart, sign_fit, Passes, passes_none, passes_more, passes_on}
 use Rattle.print_model.proofs.OperandChains.{name_closes, from_closing}
 use Rattle.print_model.proofs.HeadChains.{Spaced, Anything, spaced_ready, semicolon_sign, brace_sign, brace_end, round_sign, expression_passes, head_passes, note_passes, alias_passes, import_passes}
@@ -216,6 +218,36 @@ lines_lex l ls h =
       seen_puts g ps ∙ (sym (map-map heard (λ (p : Put). p.token) ps) ∙ ap (map heard) (line_tokens ls)),
     )
 
--- so has the text of a model
+-- it is UTF-8
+
+gap_utf8 : (b : Bool) → IsUtf8 (cond b [] (32 ∷ []))
+gap_utf8 true = IsUtf8-nil
+gap_utf8 false = low_utf8 (32 ∷ []) refl
+
+set_utf8 : (l : Language) (p : Printed) (ps : List Printed) → IsFit l p → Chained l p ps → IsUtf8 (set (p ∷ ps))
+set_utf8 l p [] h c = fit_utf8 l p.kind p.bytes h
+set_utf8 l p (q ∷ ps) h c = IsUtf8-append p.bytes (gap p q ++ set (q ∷ ps)) (fit_utf8 l p.kind p.bytes h)
+    (IsUtf8-append (gap p q) (set (q ∷ ps)) (gap_utf8 _) (set_utf8 l q ps c.0 c.2))
+
+indent_utf8 : (n : ℕ) → IsUtf8 (indent n)
+indent_utf8 zero = IsUtf8-nil
+indent_utf8 (suc n) = IsUtf8-append (codes "    ") (indent n) (low_utf8 (codes "    ") refl) (indent_utf8 n)
+
+chain_utf8 : (l : Language) (ps : List Printed) → IsChain l ps → IsUtf8 (set ps)
+chain_utf8 l [] h = elim h [ ]
+chain_utf8 l (p ∷ ps) h = set_utf8 l p ps h.0 h.1
+
+-- the text of lines
+pub lines_utf8 : (l : Language) (ls : List Line) → AreChains l ls → IsUtf8 (text_of ls)
+lines_utf8 l [] h = IsUtf8-nil
+lines_utf8 l (x ∷ ls) h =
+    IsUtf8-append (line_bytes x) (text_of ls)
+    (IsUtf8-append (indent x.level) (set x.tokens ++ 10 ∷ []) (indent_utf8 x.level)
+    (IsUtf8-append (set x.tokens) (10 ∷ []) (chain_utf8 l x.tokens h.0) (low_utf8 (10 ∷ []) refl)))
+    (lines_utf8 l ls h.1)
+
+-- so is the text of a model, and it has just its tokens
 pub written_texts_lex : WrittenTextsLex
-written_texts_lex d w = lines_lex d.language (model_lines d) (body_are_chains (suc (length d.elements)) d 0 0 w)
+written_texts_lex d w =
+    let chains = body_are_chains (suc (length d.elements)) d 0 0 w in
+    (lines_utf8 d.language (model_lines d) chains, lines_lex d.language (model_lines d) chains)

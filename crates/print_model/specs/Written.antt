@@ -1,6 +1,6 @@
 -- What a model's parts must be for its text to be cut at its tokens: names and texts that can be spelt, words of its
 -- language, comments that end where they close.
-use Rattle.std.specs.Prelude.{◌≡◌, ◌⊎◌, ℕ, ◌<◌, ◌^◌, Bool, true, ◌&&◌, is_some, Option, Some, None, pos, List, [], ◌∷◌, ◌++◌, codes, slice_index_or}
+use Rattle.std.specs.Prelude.{◌≡◌, ◌⊎◌, ℕ, ◌<◌, ◌^◌, Bool, true, ◌&&◌, is_some, Option, Some, None, pos, IsUtf8, List, [], ◌∷◌, ◌++◌, codes, slice_index_or}
 use Rattle.std.specs.List.{list_all, flat_map}
 use Rattle.element_store.specs.declared.outcome.Language.{Language}
 use Rattle.element_store.specs.declared.outcome.Language.TheVariants.{Sysml}
@@ -91,6 +91,7 @@ pub record IsWrittenElement (d : Data) (n : ℕ) (e : Element) : Type 0 where
   pub name : IsSpellableIn e.name
   pub locale : IsSpellableIn e.locale
   pub body : IsUpToClose (body_bytes e.body ++ codes "*/")
+  pub said : IsUtf8 (body_bytes e.body)
   pub bounds : AreWrittenBounds d e.bounds
   pub value : AreWrittenNodes d e.value
   pub result : AreWrittenNodes d e.result
@@ -117,7 +118,10 @@ pub record CanBeWritten (d : Data) : Type 0 where
   pub items : (n : ℕ) → Every (IsWrittenItem d) (items_at d n)
   pub references : Every (λ r. IsWrittenPath (path_in r)) d.references
 
--- the text of such a model has just its tokens
+-- the text of such a model is UTF-8, and has just its tokens
 abbrev pub WrittenTextsLex : Type 0
 WrittenTextsLex =
-    (d : Data) → CanBeWritten d → HasTokens d.language (printed_text d) (flat_map (λ x. x.tokens) (model_lines d))
+    (d : Data)
+    → CanBeWritten d
+    → IsUtf8 (printed_text d)
+    × HasTokens d.language (printed_text d) (flat_map (λ x. x.tokens) (model_lines d))

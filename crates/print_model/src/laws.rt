@@ -22,8 +22,8 @@ pub fn printed_tokens_lex()
     ensures { PrintedTokensLex }
 {}
 
-/// A law: the canonical text of a model has just the tokens that were printed, wherever its names and
-/// texts can be spelt, its words are those of its language and its comments end where they close.
+/// A law: the canonical text of a model is UTF-8 and has just the tokens that were printed, wherever its
+/// names and texts can be spelt, its words are those of its language and its comments end where they close.
 pub fn written_texts_lex()
     ensures { WrittenTextsLex }
 {}
