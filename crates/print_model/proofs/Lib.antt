@@ -19,3 +19,5 @@ pub mod Joints
 pub mod OperandChains
 pub mod HeadChains
 pub mod LineChains
+pub mod SpeltWalk
+pub mod SpeltModel

@@ -2,6 +2,7 @@
 -- language, comments that end where they close.
 use Rattle.std.specs.Prelude.{◌≡◌, ◌⊎◌, ℕ, ◌<◌, ◌^◌, Bool, true, ◌&&◌, is_some, Option, Some, None, pos, IsUtf8, List, [], ◌∷◌, ◌++◌, codes, slice_index_or}
 use Rattle.std.specs.List.{list_all, flat_map}
+use Rattle.element_store.specs.declared.numbers.FileNo.{FileNo}
 use Rattle.element_store.specs.declared.outcome.Language.{Language}
 use Rattle.element_store.specs.declared.outcome.Language.TheVariants.{Sysml}
 use Rattle.element_store.specs.declared.kind.Kind.{Kind}
@@ -24,6 +25,7 @@ use Rattle.token_core.specs.Pieces.{IsUpToClose}
 use Rattle.token_core.specs.Spelling.{is_basic_name}
 use Rattle.token_core.specs.Reading.{IsSpellable}
 use Rattle.text_model.specs.declared.draft.Path.{Path}
+use Rattle.text_model.specs.Profile.{InProfile}
 use Rattle.text_laws.specs.Fits.{Every}
 use Rattle.print_model.specs.Trees.{Tree, Integer, Boolean, Text, Null, Named, Before, Between, Choice}
 use Rattle.print_model.specs.Heads.{element_at, member_at, items_at, no_import, path_in, path_at, spelt, kind_word, body_bytes, is_end, ends_of, model_lines, printed_text}
@@ -125,3 +127,9 @@ WrittenTextsLex =
     → CanBeWritten d
     → IsUtf8 (printed_text d)
     × HasTokens d.language (printed_text d) (flat_map (λ x. x.tokens) (model_lines d))
+
+-- each name in the model of a text has a segment, and its segments can be spelt
+abbrev pub NamesCanBeSpelt : Type 0
+NamesCanBeSpelt =
+    (file : FileNo) (language : Language) (text : List ℕ) (d : Data)
+    → InProfile file language text d → Every (λ r. IsWrittenPath (path_in r)) d.references

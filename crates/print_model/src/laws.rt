@@ -1,7 +1,7 @@
 //! Laws of canonical text. Each is a function with nothing to run: what it ensures holds of the
 //! definitions alone.
 ghost use Rattle.print_model.specs.Spelt.{ExpressionsHaveTrees};
-ghost use Rattle.print_model.specs.Written.{WrittenTextsLex};
+ghost use Rattle.print_model.specs.Written.{NamesCanBeSpelt, WrittenTextsLex};
 ghost use Rattle.print_model.specs.ReadBack.{ExpressionsReadBack, PrintedTokensLex};
 
 /// A law: in both languages, each expression that can be printed is read back. The grammar derives its
@@ -26,4 +26,9 @@ pub fn printed_tokens_lex()
 /// names and texts can be spelt, its words are those of its language and its comments end where they close.
 pub fn written_texts_lex()
     ensures { WrittenTextsLex }
+{}
+
+/// A law: each name in the model of a text has a segment, and its segments can be spelt.
+pub fn names_can_be_spelt()
+    ensures { NamesCanBeSpelt }
 {}

@@ -4,5 +4,6 @@
 mod laws;
 
 pub use laws::{
-    expressions_have_trees, expressions_read_back, printed_tokens_lex, written_texts_lex,
+    expressions_have_trees, expressions_read_back, names_can_be_spelt, printed_tokens_lex,
+    written_texts_lex,
 };
