@@ -21,3 +21,4 @@ pub mod HeadChains
 pub mod LineChains
 pub mod SpeltWalk
 pub mod SpeltModel
+pub mod WordedWalk
