@@ -1,0 +1,4 @@
+library package Items {
+    abstract item def Item :> Objects::Object;
+    abstract item items : Item [0..*] :> Objects::objects;
+}

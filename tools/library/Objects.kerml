@@ -1,0 +1,4 @@
+library package Objects {
+    abstract struct Object :> Occurrences::Occurrence;
+    abstract feature objects : Object [0..*] :> Occurrences::occurrences;
+}

@@ -1,0 +1,4 @@
+library package Ports {
+    abstract port def Port :> Objects::Object;
+    abstract port ports : Port [0..*] :> Objects::objects;
+}
