@@ -1,0 +1,5 @@
+pub mod Answers
+pub mod Commands
+pub mod Cut
+pub mod Refusals
+pub mod Stops

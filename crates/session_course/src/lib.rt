@@ -1,0 +1,12 @@
+//! What a session is: the commands of a script with their spellings, the cut of an input into commands,
+//! the table of stops, the course of an input over a book, its answers and its ending.
+//!
+//! Read `specs/Commands`, `specs/Cut`, `specs/Refusals`, `specs/Answers` and `specs/Stops` in this order.
+//! `specs/Worked` has evaluated examples, `laws` what holds of all.
+#![tactic(auto)]
+
+mod laws;
+
+pub use laws::{
+    answers_exist, cut_exists, each_input_has_a_course, one_answer_each, one_course, one_cut,
+};
