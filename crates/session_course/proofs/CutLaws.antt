@@ -14,11 +14,13 @@ use Rattle.session_course.proofs.Lines.{word_of, words_same, spelling_same, spel
 -- `end` without its LF is no whole command
 pub bare_end_partial : (c : Command) (rest : List ℕ) → codes "end" ≡ spelling_of c ++ rest → ⊥
 bare_end_partial c rest e =
-    let feed : IsMember (codes "end") 10 = subst (λ bs. IsMember bs 10) (sym (e ∙ spelt_by_line c rest)) (member_right (line_of c) (10 ∷ (body_of c ++ rest)) 10 (inl refl)) in
+    let feed : IsMember (codes "end") 10 = subst (λ bs. IsMember bs 10) (sym (e ∙ spelt_by_line c rest))
+    (member_right (line_of c) (10 ∷ (body_of c ++ rest)) 10 (inl refl)) in
     line_feed Command.End tt feed
 
 -- one command begins in one way
-pub begins_same : (ended : Bool) (c d : Command) (bytes rest left : List ℕ) → HasForm c → HasForm d → Begins ended c bytes rest → Begins ended d bytes left → (c ≡ d) × (rest ≡ left)
+pub begins_same : (ended : Bool) (c d : Command) (bytes rest left : List ℕ) → HasForm c → HasForm d → Begins ended c bytes rest → Begins ended d bytes left
+    → (c ≡ d) × (rest ≡ left)
 begins_same ended c d bytes rest left h k (inl a) (inl b) = spelling_same c d rest left h k (sym a ∙ b)
 begins_same ended c d bytes rest left h k (inl a) (inr b) = absurd (bare_end_partial c rest (sym b.2 ∙ a))
 begins_same ended c d bytes rest left h k (inr a) (inl b) = absurd (bare_end_partial d left (sym a.2 ∙ b))
@@ -35,7 +37,8 @@ reads_shorter ended book [] bytes rest r = omega (arith, ap length r)
 reads_shorter ended book (c ∷ cs) bytes rest r = omega (arith, begins_shorter ended c bytes r.0 r.1, reads_shorter ended (book_after book c) cs r.0 rest r.4)
 
 -- two readings of the same bytes: the shorter is the front of the longer
-pub readings_agree : (ended : Bool) (book : Book) (cs ds : List Command) (bytes rest left : List ℕ) → Reads ended book cs bytes rest → Reads ended book ds bytes left
+pub readings_agree : (ended : Bool) (book : Book) (cs ds : List Command) (bytes rest left : List ℕ) → Reads ended book cs bytes rest
+    → Reads ended book ds bytes left
     → length ds ≤ length cs → (more : List Command) × (cs ≡ ds ++ more) × (more ≡ [] → rest ≡ left)
 readings_agree ended book [] [] bytes rest left r s le = ([], refl, λ e. sym r ∙ s)
 readings_agree ended book [] (d ∷ ds) bytes rest left r s le = absurd (omega arith)
@@ -43,7 +46,8 @@ readings_agree ended book (c ∷ cs) [] bytes rest left r s le = (c ∷ cs, refl
 readings_agree ended book (c ∷ cs) (d ∷ ds) bytes rest left r s le =
     let same = begins_same ended c d bytes r.0 s.0 r.2.form s.2.form r.1 s.1 in
     let further : Reads ended (book_after book c) ds r.0 left =
-    subst (λ (x : Command). Reads ended (book_after book x) ds r.0 left) (sym same.0) (subst (λ bs. Reads ended (book_after book d) ds bs left) (sym same.1) s.4) in
+    subst (λ (x : Command). Reads ended (book_after book x) ds r.0 left) (sym same.0)
+    (subst (λ bs. Reads ended (book_after book d) ds bs left) (sym same.1) s.4) in
     let whole = readings_agree ended (book_after book c) cs ds r.0 rest left r.4 further (omega arith) in
     let first : c ≡ d = same.0 in
     let tail : cs ≡ ds ++ whole.0 = whole.1 in
@@ -59,7 +63,8 @@ none_longer ended least book [] (d ∷ ds) bytes rest left r stops s le =
 none_longer ended least book (c ∷ cs) (d ∷ ds) bytes rest left r stops s le =
     let same = begins_same ended c d bytes r.0 s.0 r.2.form s.2.form r.1 s.1 in
     let further : Reads ended (book_after book c) ds r.0 left =
-    subst (λ (x : Command). Reads ended (book_after book x) ds r.0 left) (sym same.0) (subst (λ bs. Reads ended (book_after book d) ds bs left) (sym same.1) s.4) in
+    subst (λ (x : Command). Reads ended (book_after book x) ds r.0 left) (sym same.0)
+    (subst (λ bs. Reads ended (book_after book d) ds bs left) (sym same.1) s.4) in
     omega (arith, none_longer ended least (book_after book c) cs ds r.0 rest left r.4 stops further le)
 
 -- no reading goes on after `end`
@@ -73,7 +78,8 @@ end_longest ended book (c ∷ []) (d ∷ ds) bytes rest left r stops s =
 end_longest ended book (c ∷ b ∷ cs) (d ∷ ds) bytes rest left r stops s =
     let same = begins_same ended c d bytes r.0 s.0 r.2.form s.2.form r.1 s.1 in
     let further : Reads ended (book_after book c) ds r.0 left =
-    subst (λ (x : Command). Reads ended (book_after book x) ds r.0 left) (sym same.0) (subst (λ bs. Reads ended (book_after book d) ds bs left) (sym same.1) s.4) in
+    subst (λ (x : Command). Reads ended (book_after book x) ds r.0 left) (sym same.0)
+    (subst (λ bs. Reads ended (book_after book d) ds bs left) (sym same.1) s.4) in
     omega (arith, end_longest ended (book_after book c) (b ∷ cs) ds r.0 rest left r.4 stops further)
 
 -- a list that is no longer than its front is its front
@@ -82,7 +88,8 @@ no_more cs ds [] e le = refl
 no_more cs ds (m ∷ more) e le = absurd (omega (arith, ap length e, length-append ds (m ∷ more)))
 
 -- two cuts of the same bytes are equal
-pub cuts_same : (ended : Bool) (from : Book) (cs ds : List Command) (bytes rest left : List ℕ) → IsCut ended from cs bytes rest → IsCut ended from ds bytes left → (cs ≡ ds) × (rest ≡ left)
+pub cuts_same : (ended : Bool) (from : Book) (cs ds : List Command) (bytes rest left : List ℕ) → IsCut ended from cs bytes rest
+    → IsCut ended from ds bytes left → (cs ≡ ds) × (rest ≡ left)
 cuts_same ended from cs ds bytes rest left a b =
     let whole = readings_agree ended from cs ds bytes rest left a.reading.reads b.reading.reads (a.longest ds left b.reading) in
     let sizes = b.longest cs rest a.reading in
@@ -90,10 +97,16 @@ cuts_same ended from cs ds bytes rest left a b =
     (whole.1 ∙ (ap (λ ms. ds ++ ms) none ∙ append-nil ds), whole.2 none)
 
 -- more bytes follow what was read
-pub reads_more : (ended : Bool) (book : Book) (cs : List Command) (bytes rest more : List ℕ) → Reads false book cs bytes rest → Reads ended book cs (bytes ++ more) (rest ++ more)
+pub reads_more : (ended : Bool) (book : Book) (cs : List Command) (bytes rest more : List ℕ) → Reads false book cs bytes rest
+    → Reads ended book cs (bytes ++ more) (rest ++ more)
 reads_more ended book [] bytes rest more r = ap (λ bs. bs ++ more) r
-reads_more ended book (c ∷ cs) bytes rest more (now, inl begins, accepted, last, then) =
-    (now ++ more, inl (ap (λ bs. bs ++ more) begins ∙ append_assoc (spelling_of c) now more), accepted, last, reads_more ended (book_after book c) cs now rest more then)
+reads_more ended book (c ∷ cs) bytes rest more (now, inl begins, accepted, last, then) = (
+  now ++ more,
+  inl (ap (λ bs. bs ++ more) begins ∙ append_assoc (spelling_of c) now more),
+  accepted,
+  last,
+  reads_more ended (book_after book c) cs now rest more then,
+)
 reads_more ended book (c ∷ cs) bytes rest more (now, inr bare, accepted, last, then) = let e : false ≡ true = bare.0 in cc
 
 -- one command more was read
@@ -148,7 +161,8 @@ endless_none bytes more rest c long short e =
 -- where the line has no form, no command stands
 pub formless_none : (bytes more rest : List ℕ) (c : Command) → IsFormless bytes → HasForm c → bytes ++ more ≡ spelling_of c ++ rest → ⊥
 formless_none bytes more rest c bad form e =
-    let whole : spelling_of c ++ rest ≡ bad.line ++ 10 ∷ (bad.back ++ more) = sym e ∙ (ap (λ bs. bs ++ more) bad.stands ∙ append_assoc bad.line (10 ∷ bad.back) more) in
+    let whole : spelling_of c ++ rest ≡ bad.line ++ 10 ∷ (bad.back ++ more) = sym e
+    ∙ (ap (λ bs. bs ++ more) bad.stands ∙ append_assoc bad.line (10 ∷ bad.back) more) in
     bad.none c form (line_ends_once c bad.line rest (bad.back ++ more) form bad.free whole).0
 
 -- a put's text with this line is followed by LF
@@ -174,9 +188,11 @@ unclosed_none at bytes more rest c bad form e =
     (parts.1 ∙ append_assoc bad.text (bad.next ∷ bad.back) more)
 
 -- where the line's number passes a limit, no command stands that keeps to it
-pub oversized_none : (limit : ℕ) (bytes more rest : List ℕ) (c : Command) → IsOversized limit bytes → HasForm c → limit_passed c ≡ None → bytes ++ more ≡ spelling_of c ++ rest → ⊥
+pub oversized_none : (limit : ℕ) (bytes more rest : List ℕ) (c : Command) → IsOversized limit bytes → HasForm c → limit_passed c ≡ None
+    → bytes ++ more ≡ spelling_of c ++ rest → ⊥
 oversized_none limit bytes more rest c bad form size e =
-    let whole : spelling_of c ++ rest ≡ line_of bad.command ++ 10 ∷ (bad.back ++ more) = sym e ∙ (ap (λ bs. bs ++ more) bad.stands ∙ append_assoc (line_of bad.command) (10 ∷ bad.back) more) in
+    let whole : spelling_of c ++ rest ≡ line_of bad.command ++ 10 ∷ (bad.back ++ more) = sym e
+    ∙ (ap (λ bs. bs ++ more) bad.stands ∙ append_assoc (line_of bad.command) (10 ∷ bad.back) more) in
     let line = (line_ends_once c (line_of bad.command) rest (bad.back ++ more) form (line_feed bad.command bad.form) whole).0 in
     let same : None ≡ Some limit = sym size ∙ (passed_same c bad.command form bad.form line ∙ bad.passed) in cc
 
@@ -203,7 +219,8 @@ reads_spelt book (c ∷ cs) bytes rest (now, inr bare, accepted, last, then) = l
 
 -- After commands none of which is `end` no accepted command begins within the bound: they are the cut.
 pub cut_stops : (ended : Bool) (from : Book) (cs : List Command) (bytes rest : List ℕ) → IsReading ended from cs bytes rest
-    → ((c : Command) (more : List ℕ) → IsAccepted (book_left from cs) c → Begins ended c rest more → length bytes ≤ length more + INPUT_BYTES → ⊥) → IsCut ended from cs bytes rest
+    → ((c : Command) (more : List ℕ) → IsAccepted (book_left from cs) c → Begins ended c rest more → length bytes ≤ length more + INPUT_BYTES → ⊥)
+    → IsCut ended from cs bytes rest
 cut_stops ended from cs bytes rest r stops = record {
   reading = r;
   longest = λ others left s. none_longer ended (length bytes - INPUT_BYTES) from cs others bytes rest left r.reads
@@ -211,10 +228,16 @@ cut_stops ended from cs bytes rest r stops = record {
 }
 
 -- a reading that ends with `end` is the cut
-pub cut_ends : (ended : Bool) (from : Book) (cs : List Command) (bytes rest : List ℕ) → IsReading ended from cs bytes rest → EndsWithEnd cs → IsCut ended from cs bytes rest
-cut_ends ended from cs bytes rest r stops = record { reading = r; longest = λ others left s. end_longest ended from cs others bytes rest left r.reads stops s.reads }
+pub cut_ends : (ended : Bool) (from : Book) (cs : List Command) (bytes rest : List ℕ) → IsReading ended from cs bytes rest → EndsWithEnd cs
+    → IsCut ended from cs bytes rest
+cut_ends ended from cs bytes rest r stops = record {
+  reading = r;
+  longest =
+      λ others left s. end_longest ended from cs others bytes rest left r.reads stops s.reads;
+}
 
 -- a reading is the front of the cut
-pub cut_begins : (ended : Bool) (from : Book) (cs ds : List Command) (bytes rest left : List ℕ) → IsCut ended from cs bytes rest → IsReading ended from ds bytes left → (more : List Command) × (cs ≡ ds ++ more)
+pub cut_begins : (ended : Bool) (from : Book) (cs ds : List Command) (bytes rest left : List ℕ) → IsCut ended from cs bytes rest
+    → IsReading ended from ds bytes left → (more : List Command) × (cs ≡ ds ++ more)
 cut_begins ended from cs ds bytes rest left cut r =
     let whole = readings_agree ended from cs ds bytes rest left cut.reading.reads r.reads (cut.longest ds left r) in (whole.0, whole.1)

@@ -132,7 +132,8 @@ pub spelt_by_line : (c : Command) (rest : List ℕ) → spelling_of c ++ rest �
 spelt_by_line c rest = append_assoc (line_of c ++ codes "\n") (body_of c) rest ∙ append_assoc (line_of c) (codes "\n") (body_of c ++ rest)
 
 -- a line has its LF in one place
-pub line_ends_once : (c : Command) (line rest back : List ℕ) → HasForm c → (IsMember line 10 → ⊥) → spelling_of c ++ rest ≡ line ++ 10 ∷ back → (line_of c ≡ line) × (body_of c ++ rest ≡ back)
+pub line_ends_once : (c : Command) (line rest back : List ℕ) → HasForm c → (IsMember line 10 → ⊥) → spelling_of c ++ rest ≡ line ++ 10 ∷ back
+    → (line_of c ≡ line) × (body_of c ++ rest ≡ back)
 line_ends_once c line rest back h free e = split_once 10 (line_of c) line (body_of c ++ rest) back (line_feed c h) free (sym (spelt_by_line c rest) ∙ e)
 
 -- the line of a put says the name and the length of the text
@@ -140,7 +141,8 @@ pub put_line_same : (name other text later : List ℕ) → HasForm (put name tex
     → line_of (put name text) ≡ line_of (put other later) → (name ≡ other) × (length text ≡ length later)
 put_line_same name other text later h k e =
     let apart : (codes "put " ++ name) ++ 32 ∷ decimal (length text) ≡ (codes "put " ++ other) ++ 32 ∷ decimal (length later) =
-    sym (append_assoc (codes "put " ++ name) (codes " ") (decimal (length text))) ∙ (e ∙ append_assoc (codes "put " ++ other) (codes " ") (decimal (length later))) in
+    sym (append_assoc (codes "put " ++ name) (codes " ") (decimal (length text)))
+    ∙ (e ∙ append_assoc (codes "put " ++ other) (codes " ") (decimal (length later))) in
     let named : name ++ 32 ∷ decimal (length text) ≡ other ++ 32 ∷ decimal (length later) = cc in
     let parts = split_once 32 name other (decimal (length text)) (decimal (length later)) (name_space name h.0) (name_space other k.0) named in
     (parts.0, decimal_injective (length text) (length later) (omega (arith, h.1)) (omega (arith, k.1)) parts.1)

@@ -19,16 +19,19 @@ long_not_end bytes more long e =
 
 -- a short line ends before 2,049 bytes
 pub short_not_long : (bytes line back : List ℕ) → length line ≤ LINE_BYTES → bytes ≡ line ++ 10 ∷ back → IsEndless bytes → ⊥
-short_not_long bytes line back short stands long = omega (arith, front_within long.front line long.back back long.free (sym long.stands ∙ stands), long.size, short)
+short_not_long bytes line back short stands long = omega
+    (arith, front_within long.front line long.back back long.free (sym long.stands ∙ stands), long.size, short)
 
 -- the line of a command has a form
 pub formed : (bytes back : List ℕ) (c : Command) → HasForm c → bytes ≡ line_of c ++ 10 ∷ back → IsFormless bytes → ⊥
-formed bytes back c form stands bad = bad.none c form (sym (split_once 10 bad.line (line_of c) bad.back back bad.free (line_feed c form) (sym bad.stands ∙ stands)).0)
+formed bytes back c form stands bad = bad.none c form
+    (sym (split_once 10 bad.line (line_of c) bad.back back bad.free (line_feed c form) (sym bad.stands ∙ stands)).0)
 
 -- the line of a command whose number keeps to its limit
 pub sized : (bytes back : List ℕ) (c : Command) (limit : ℕ) → HasForm c → limit_passed c ≡ None → bytes ≡ line_of c ++ 10 ∷ back → IsOversized limit bytes → ⊥
 sized bytes back c limit form size stands bad =
-    let lines = (split_once 10 (line_of bad.command) (line_of c) bad.back back (line_feed bad.command bad.form) (line_feed c form) (sym bad.stands ∙ stands)).0 in
+    let lines = (split_once 10 (line_of bad.command) (line_of c) bad.back back (line_feed bad.command bad.form) (line_feed c form)
+    (sym bad.stands ∙ stands)).0 in
     let e : Some limit ≡ None = sym bad.passed ∙ (passed_same bad.command c bad.form form lines ∙ size) in cc
 
 -- one list is the front of another, where both begin the same list
@@ -53,19 +56,22 @@ module _ (from : Book) (cs : List Command) (bytes rest : List ℕ) (open_ : AreO
   row_none ended Stop.LongLine lo hi h c more ok (inl whole) = endless_none (next_bytes bytes rest) _ more c h ok.short (parts ∙ whole)
   row_none ended Stop.LongLine lo hi h c more ok (inr bare) = long_not_end (next_bytes bytes rest) _ h (parts ∙ bare.2)
   row_none ended Stop.NoForm lo hi h c more ok (inl whole) = formless_none (next_bytes bytes rest) _ more c h ok.form (parts ∙ whole)
-  row_none ended Stop.NoForm lo hi h c more ok (inr bare) = feed_not_end h.line h.back _ (ap (λ bs. bs ++ drop (INPUT_BYTES - place_of bytes rest) rest) (sym h.stands) ∙ (parts ∙ bare.2))
+  row_none ended Stop.NoForm lo hi h c more ok (inr bare) =
+      feed_not_end h.line h.back _ (ap (λ bs. bs ++ drop (INPUT_BYTES - place_of bytes rest) rest) (sym h.stands) ∙ (parts ∙ bare.2))
   row_none ended (Stop.LongText l) lo hi h c more ok (inl whole) = oversized_none l (next_bytes bytes rest) _ more c h ok.form ok.size (parts ∙ whole)
   row_none ended (Stop.LongText l) lo hi h c more ok (inr bare) =
       feed_not_end (line_of h.command) h.back _ (ap (λ bs. bs ++ drop (INPUT_BYTES - place_of bytes rest) rest) (sym h.stands) ∙ (parts ∙ bare.2))
   row_none ended (Stop.NoLineFeed i) lo hi h c more ok (inl whole) = unclosed_none i (next_bytes bytes rest) _ more c h ok.form (parts ∙ whole)
   row_none ended (Stop.NoLineFeed i) lo hi h c more ok (inr bare) =
-      feed_not_end (line_of (put h.name h.text)) (h.text ++ h.next ∷ h.back) _ (ap (λ bs. bs ++ drop (INPUT_BYTES - place_of bytes rest) rest) (sym h.stands) ∙ (parts ∙ bare.2))
+      feed_not_end (line_of (put h.name h.text)) (h.text ++ h.next ∷ h.back) _
+      (ap (λ bs. bs ++ drop (INPUT_BYTES - place_of bytes rest) rest) (sym h.stands) ∙ (parts ∙ bare.2))
   row_none ended (Stop.NoRoom l xs) lo hi h c more ok begins =
       refused_here (book_left from cs) l xs (next_bytes bytes rest) h ended c _ more ok (subst (λ bs. Begins ended c bs more) (sym parts) begins)
   row_none ended s lo hi h c more ok begins = absurd (omega (arith, lo, hi))
 
   -- then the commands are the cut, and this is the course
-  abbrev pub course_of : (ended : Bool) → IsReading ended from cs bytes rest → (s : Stop) → 1 < row_of s → row_of s < 7 → IsStop from cs bytes rest s → Course ended from bytes
+  abbrev pub course_of : (ended : Bool) → IsReading ended from cs bytes rest → (s : Stop) → 1 < row_of s → row_of s < 7 → IsStop from cs bytes rest s
+      → Course ended from bytes
   course_of ended reading s lo hi i = record {
     commands = cs;
     rest = rest;
@@ -138,12 +144,14 @@ module _ (from : Book) (cs : List Command) (bytes rest : List ℕ) (open_ : AreO
   none_above u other less k = absurd (omega (arith, less))
 
   -- no accepted command begins that ends within the limit
-  pub unfinished_none : (ended : Bool) → IsReading ended from cs bytes rest → IsUnfinished (next_bytes bytes rest) → (ended ≡ true → rest ≡ codes "end" → length bytes ≤ INPUT_BYTES → ⊥)
+  pub unfinished_none : (ended : Bool) → IsReading ended from cs bytes rest → IsUnfinished (next_bytes bytes rest)
+      → (ended ≡ true → rest ≡ codes "end" → length bytes ≤ INPUT_BYTES → ⊥)
       → (c : Command) (more : List ℕ) → IsAccepted (book_left from cs) c → Begins ended c rest more → length bytes ≤ length more + INPUT_BYTES → ⊥
   unfinished_none ended reading u bare c more ok (inl whole) le =
       let sizes : length rest ≡ length (spelling_of c) + length more = ap length whole ∙ length-append (spelling_of c) more in
       let before = reads_shorter ended from cs bytes rest reading.reads in
-      let mid = split_front (spelling_of c) (next_bytes bytes rest) more (drop (INPUT_BYTES - place_of bytes rest) rest) (fits sizes before) (sym whole ∙ sym parts) in
+      let mid = split_front (spelling_of c) (next_bytes bytes rest) more (drop (INPUT_BYTES - place_of bytes rest) rest) (fits sizes before)
+      (sym whole ∙ sym parts) in
       u.partial c mid.0 ok.form ok.size mid.1
     where
       fits : length rest ≡ length (spelling_of c) + length more → length rest ≤ length bytes → length (spelling_of c) ≤ length (next_bytes bytes rest)
@@ -151,7 +159,8 @@ module _ (from : Book) (cs : List Command) (bytes rest : List ℕ) (open_ : AreO
   unfinished_none ended reading u bare c more ok (inr end) le = bare end.0 end.2 (omega (arith, le, ap length end.3))
 
   -- the input is too long
-  abbrev pub course_long : (ended : Bool) → IsReading ended from cs bytes rest → IsUnfinished (next_bytes bytes rest) → INPUT_BYTES < length bytes → Course ended from bytes
+  abbrev pub course_long : (ended : Bool) → IsReading ended from cs bytes rest → IsUnfinished (next_bytes bytes rest) → INPUT_BYTES < length bytes
+      → Course ended from bytes
   course_long ended reading u long = record {
     commands = cs;
     rest = rest;
@@ -172,7 +181,8 @@ module _ (from : Book) (cs : List Command) (bytes rest : List ℕ) (open_ : AreO
   none_short u le (Stop.NoRoom l xs) less k = none_above u (Stop.NoRoom l xs) (omega arith) k
 
   -- the input ends, or was cut off, before a whole command
-  abbrev pub course_short : (ended : Bool) → IsReading ended from cs bytes rest → IsUnfinished (next_bytes bytes rest) → (ended ≡ true → rest ≡ codes "end" → ⊥) → length bytes ≤ INPUT_BYTES → Course ended from bytes
+  abbrev pub course_short : (ended : Bool) → IsReading ended from cs bytes rest → IsUnfinished (next_bytes bytes rest)
+      → (ended ≡ true → rest ≡ codes "end" → ⊥) → length bytes ≤ INPUT_BYTES → Course ended from bytes
   course_short ended reading u bare le = record {
     commands = cs;
     rest = rest;

@@ -12,7 +12,8 @@ use Rattle.session_course.proofs.Lines.{split_once, line_feed, put_line_same, pa
 -- a line passes one limit
 limit_same : (bytes : List ℕ) (l m : ℕ) → IsOversized l bytes → IsOversized m bytes → l ≡ m
 limit_same bytes l m a b =
-    let lines = (split_once 10 (line_of a.command) (line_of b.command) a.back b.back (line_feed a.command a.form) (line_feed b.command b.form) (sym a.stands ∙ b.stands)).0 in
+    let lines = (split_once 10 (line_of a.command) (line_of b.command) a.back b.back (line_feed a.command a.form) (line_feed b.command b.form)
+    (sym a.stands ∙ b.stands)).0 in
     let both : Some l ≡ Some m = sym a.passed ∙ (passed_same a.command b.command a.form b.form lines ∙ b.passed) in cc
 
 -- one byte after a put's text isn't LF
@@ -21,10 +22,19 @@ feed_same bytes i j a b =
     let lines = (split_once 10 (line_of (put a.name a.text)) (line_of (put b.name b.text)) (a.text ++ a.next ∷ a.back) (b.text ++ b.next ∷ b.back)
     (line_feed (put a.name a.text) a.form) (line_feed (put b.name b.text) b.form) (sym a.stands ∙ b.stands)).0 in
     let sizes = (put_line_same a.name b.name a.text b.text a.form b.form lines).1 in
-    omega (arith, a.place, b.place, ap length lines, sizes, length-append (line_of (put a.name a.text)) (10 ∷ a.text), length-append (line_of (put b.name b.text)) (10 ∷ b.text))
+    omega (
+      arith,
+      a.place,
+      b.place,
+      ap length lines,
+      sizes,
+      length-append (line_of (put a.name a.text)) (10 ∷ a.text),
+      length-append (line_of (put b.name b.text)) (10 ∷ b.text),
+    )
 
 -- a command is refused with one number
-refusal_same : (book : Book) (bytes : List ℕ) (l m : ℕ) (xs ys : List Command) → IsRefused book l xs bytes → IsRefused book m ys bytes → Stop.NoRoom l xs ≡ Stop.NoRoom m ys
+refusal_same : (book : Book) (bytes : List ℕ) (l m : ℕ) (xs ys : List Command) → IsRefused book l xs bytes → IsRefused book m ys bytes
+    → Stop.NoRoom l xs ≡ Stop.NoRoom m ys
 refusal_same book bytes l m xs ys a b =
     let same = (spelling_same a.command b.command a.back b.back a.form b.form (sym a.stands ∙ b.stands)).0 in
     let both : Some l ≡ Some m = sym a.refused ∙ (ap (λ (c : Command). refusal_of book c) same ∙ b.refused) in
@@ -48,7 +58,11 @@ module _ (from : Book) (commands : List Command) (bytes rest : List ℕ) where
   pub stops_same : (s t : Stop) → IsStop from commands bytes rest s → IsStop from commands bytes rest t → s ≡ t
   stops_same s t a b = elim (cases_lt (row_of s) (row_of t)) [
     | inl less ↦ absurd (b.first s less a.holds)
-    | inr le ↦ elim (cases_lt (row_of t) (row_of s)) [ inl less ↦ absurd (a.first t less b.holds) | inr ge ↦ row_same s t (omega (arith, le, ge)) a.holds b.holds ]
+    | inr le ↦ elim (cases_lt (row_of t) (row_of s)) [
+      | inl less ↦ absurd (a.first t less b.holds)
+      | inr ge ↦ row_same s t
+          (omega (arith, le, ge)) a.holds b.holds
+    ]
   ]
 
 -- an input has one course
@@ -59,5 +73,6 @@ courses_same ended from bytes a b =
       commands = cuts.0;
       rest = cuts.1;
       stop = stops_same from b.commands bytes b.rest a.stop b.stop
-          (subst (λ r. IsStop from b.commands bytes r a.stop) cuts.1 (subst (λ (cs : List Command). IsStop from cs bytes a.rest a.stop) cuts.0 a.stops)) b.stops;
+          (subst (λ r. IsStop from b.commands bytes r a.stop) cuts.1
+          (subst (λ (cs : List Command). IsStop from cs bytes a.rest a.stop) cuts.0 a.stops)) b.stops;
     }

@@ -24,7 +24,8 @@ AreAnswers library book (c ∷ cs) answers =
 
 -- each text has a reading: a model or a fault
 abbrev pub SomeReading : Type 0
-SomeReading = (file : FileNo) (language : Language) (text : List ℕ) → (r : Reading) × IsReading file language text r
+SomeReading = (file : FileNo) (language : Language) (text : List ℕ)
+    → (r : Reading) × IsReading file language text r
 
 -- there are answers of the commands
 abbrev pub HasAnswers : LibraryTexts → Book → List Command → Type 0

@@ -15,11 +15,11 @@ pub data Command : Type 0 where
 abbrev pub put : List ℕ → List ℕ → Command
 put name text = Command.Do (Asked.Put name text)
 
--- A further command adds a case to the six definitions from here to `done_before`, with its answer to those of the book,
--- and to no other definition. So `find QNAME` would be
---   line_of (Command.Do (Asked.Find words)) = codes "find " ++ words    and LF isn't among the words, by HasForm
--- and `make SEED COUNT`, which stands for COUNT puts, would pass a limit by its COUNT, be refused with the number of its
--- first refused put, and have the puts before that one in `done_before`.
+-- A further command adds a case to the six definitions from here to `done_before`, and its answer to those of the
+-- book; no other definition changes. So `find QNAME` would add, in words that hold no LF,
+--   line_of (Command.Do (Asked.Find words)) = codes "find " ++ words
+-- and `make SEED COUNT`, which stands for COUNT puts, would have the limit of COUNT in `limit_passed`, the number of
+-- its first refused put in `refusal_of`, and the puts before that one in `done_before`.
 
 -- the line of a command, without its LF
 abbrev pub line_of : Command → List ℕ
