@@ -178,18 +178,20 @@ put_says words = elim (part_at 32 words) [
   | inr none ↦ inr (put_none words (λ name text form e. none (put_spaced words name text e)))
 ]
 
--- the line isn't that of a command
-record IsOther (line : List ℕ) : Type 0 where
-  no_end : bytes_eq line (codes "end") ≡ false
-  no_check : bytes_eq line (codes "check") ≡ false
-  no_drop : bytes_eq (take 5 line) (codes "drop ") ≡ false
-  no_links : bytes_eq (take 6 line) (codes "links ") ≡ false
-  no_put : bytes_eq (take 4 line) (codes "put ") ≡ false
+-- the line isn't `end` or `check`, and begins with no word of another command
+pub record IsOther (line : List ℕ) : Type 0 where
+  pub no_end : bytes_eq line (codes "end") ≡ false
+  pub no_check : bytes_eq line (codes "check") ≡ false
+  pub no_drop : bytes_eq (take 5 line) (codes "drop ") ≡ false
+  pub no_links : bytes_eq (take 6 line) (codes "links ") ≡ false
+  pub no_put : bytes_eq (take 4 line) (codes "put ") ≡ false
 
+-- the line is another one
 not_bare : (line bare : List ℕ) → bytes_eq line bare ≡ false → bare ≡ line → ⊥
 not_bare line bare bad e = let good : bytes_eq line bare ≡ true = (bytes_eq-Decides line bare).1 (sym e) in cc
 
-other_none : (line : List ℕ) → IsOther line → SaysNothing line
+-- so it is that of no command
+pub other_none : (line : List ℕ) → IsOther line → SaysNothing line
 other_none line o (Command.Do (Asked.Put name text)) form e =
     prefix_lacks line (codes "put ") (name ++ codes " " ++ decimal (length text)) o.no_put e
 other_none line o (Command.Do (Asked.Drop name)) form e = prefix_lacks line (codes "drop ") name o.no_drop e

@@ -192,19 +192,21 @@ row_counts (Stop.NoRoom n cs) less = omega (arith, less)
 row_counts Stop.LongInput less = omega (arith, less)
 row_counts Stop.CutShort less = omega (arith, less)
 
+-- no row is before the first
+pub none_first : (from : Book) (bytes : List ℕ) (cs : List Command) (rest : List ℕ) (other : Stop) → row_of other < 1
+    → Holds from cs bytes rest other → ⊥
+none_first from bytes cs rest other less k = row_counts other less
+
 -- `end` was read
-course_ended : (ended : Bool) (from : Book) (bytes : List ℕ) (cs : List Command) (rest : List ℕ) → IsReading ended from cs bytes rest → EndsWithEnd cs
+abbrev pub course_ended : (ended : Bool) (from : Book) (bytes : List ℕ) (cs : List Command) (rest : List ℕ) → IsReading ended from cs bytes rest → EndsWithEnd cs
     → Course ended from bytes
 course_ended ended from bytes cs rest reading e = record {
   commands = cs;
   rest = rest;
   cut = cut_ends ended from cs bytes rest reading e;
   stop = Stop.Ended;
-  stops = record { holds = e; first = none };
+  stops = record { holds = e; first = none_first from bytes cs rest };
 }
-  where
-    none : (other : Stop) → row_of other < 1 → Holds from cs bytes rest other → ⊥
-    none other less k = row_counts other less
 
 -- the bytes end before a whole command, or pass the limit of an input
 course_partial : (ended : Bool) (from : Book) (bytes : List ℕ) (cs : List Command) (rest : List ℕ) → AreOpen cs → IsReading ended from cs bytes rest

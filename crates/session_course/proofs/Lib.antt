@@ -5,3 +5,4 @@ pub mod Existence
 pub mod Lines
 pub mod RowLaws
 pub mod StopLaws
+pub mod Worked
