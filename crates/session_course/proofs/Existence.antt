@@ -198,7 +198,8 @@ pub none_first : (from : Book) (bytes : List ℕ) (cs : List Command) (rest : Li
 none_first from bytes cs rest other less k = row_counts other less
 
 -- `end` was read
-abbrev pub course_ended : (ended : Bool) (from : Book) (bytes : List ℕ) (cs : List Command) (rest : List ℕ) → IsReading ended from cs bytes rest → EndsWithEnd cs
+abbrev pub course_ended : (ended : Bool) (from : Book) (bytes : List ℕ) (cs : List Command) (rest : List ℕ) → IsReading ended from cs bytes rest
+    → EndsWithEnd cs
     → Course ended from bytes
 course_ended ended from bytes cs rest reading e = record {
   commands = cs;

@@ -1,8 +1,10 @@
 pub mod AnswerLaws
 pub mod Choices
 pub mod CutLaws
+pub mod EndingLaws
 pub mod Existence
 pub mod Lines
 pub mod RowLaws
+pub mod SeenLaws
 pub mod StopLaws
 pub mod Worked

@@ -16,10 +16,20 @@ use Rattle.session_course.proofs.Choices.{other_none}
 use Rattle.session_course.proofs.Existence.{course_ended, short_unfinished}
 use Rattle.session_course.proofs.RowLaws as rows
 
+-- what these examples need of `end`
+pub nothing_no_end : [] ≡ codes "end" → ⊥
+nothing_no_end e = cc
+
+pub more_follows : false ≡ true → ⊥
+more_follows e = cc
+
+pub do_no_end : (c : Asked) → Command.Do c ≡ Command.End → ⊥
+do_no_end c e = cc
+
 -- AN EMPTY INPUT has no `end`
 abbrev pub of_nothing : Course true [] []
 of_nothing = rows.course_short [] [] [] [] tt true (record { reads = refl; within = omega arith })
-    (short_unfinished [] (omega arith) (λ m. m)) (λ e is. cc) (omega arith)
+    (short_unfinished [] (omega arith) (λ m. m)) (λ e is. nothing_no_end is) (omega arith)
 
 pub nothing_ends : course_ending of_nothing ≡ Ending.Script 0
 nothing_ends = refl
@@ -39,7 +49,11 @@ end_answers library = (codes "end\n", [], refl, refl, refl)
 -- `end` WITHOUT LF: where the input ends, it is read
 abbrev pub of_bare_end : Course true [] (codes "end")
 of_bare_end = course_ended true [] (codes "end") (Command.End ∷ []) []
-    (record { reads = ([], inr (refl, refl, refl, refl), record { form = tt; short = omega arith; size = refl; room = refl }, λ e. refl, refl); within = omega arith })
+    (record {
+      reads = ([], inr (refl, refl, refl, refl), record { form = tt; short = omega arith; size = refl; room = refl }, λ e. refl, refl);
+      within =
+          omega arith;
+    })
     refl
 
 pub bare_end_ends : course_ending of_bare_end ≡ Ending.Done
@@ -48,7 +62,7 @@ bare_end_ends = refl
 -- where more may follow, it isn't
 abbrev pub of_open_end : Course false [] (codes "end")
 of_open_end = rows.course_short [] [] (codes "end") (codes "end") tt false (record { reads = refl; within = omega arith })
-    (short_unfinished (codes "end") (omega arith) free) (λ e is. let no : false ≡ true = e in cc) (omega arith)
+    (short_unfinished (codes "end") (omega arith) free) (λ e is. more_follows e) (omega arith)
   where
     free : IsMember (codes "end") 10 → ⊥
     free m = elim m [ inl e ↦ omega (arith, e) | inr n ↦ elim n [ inl e ↦ omega (arith, e) | inr o ↦ elim o [ inl e ↦ omega (arith, e) | inr p ↦ p ] ] ]
@@ -65,7 +79,7 @@ of_put = course_ended false [] (codes "put a.kerml 4\nend\n\nend\n") (put (codes
         codes "end\n",
         inl refl,
         record { form = (refl, omega arith); short = omega arith; size = refl; room = refl },
-        λ e. cc,
+        λ e. absurd (do_no_end (Asked.Put (codes "a.kerml") (codes "end\n")) e),
         ([], inl refl, record { form = tt; short = omega arith; size = refl; room = refl }, λ e. refl, refl),
       );
       within = omega arith;
@@ -98,10 +112,10 @@ of_list =
       stands = refl;
     } in
     let check : Command = Command.Do Asked.Check in
-    let open_ : AreOpen (check ∷ []) = ((λ e. cc), tt) in
+    let open_ : AreOpen (check ∷ []) = (do_no_end Asked.Check, tt) in
     rows.course_of [] (check ∷ []) (codes "check\nlist\nend\n") (codes "list\nend\n") open_ false
     (record {
-      reads = (codes "list\nend\n", inl refl, record { form = tt; short = omega arith; size = refl; room = refl }, λ e. cc, refl);
+      reads = (codes "list\nend\n", inl refl, record { form = tt; short = omega arith; size = refl; room = refl }, λ e. refl, refl);
       within = omega arith;
     })
     Stop.NoForm (omega arith) (omega arith)
@@ -109,6 +123,11 @@ of_list =
 
 pub list_ends : course_ending of_list ≡ Ending.Script 6
 list_ends = refl
+
+-- and the command before it is answered
+pub list_answers : AreCourseAnswers of_list [] (codes "check files 0 references 0 faults 0\n")
+unfolding digits
+list_answers = (codes "check files 0 references 0 faults 0\n", [], record { files = []; are = tt; stands = refl }, refl, refl)
 
 -- LEN ABOVE ITS LIMIT is refused before its bytes are taken
 pub long_put : (size : ℕ) → nat_lt FILE_BYTES size ≡ true → size < 10 ^ 10 → (h : IsOversized FILE_BYTES (codes "put a.sysml " ++ decimal size ++ codes "\n"))

@@ -4,7 +4,7 @@ use Rattle.linker_base.specs.declared.limits.TheConstants.{INPUT_BYTES, LINE_BYT
 use Rattle.book_model.specs.Book.{Book}
 use Rattle.book_model.specs.Files.{LibraryTexts}
 use Rattle.session_course.specs.Commands.{Command}
-use Rattle.session_course.specs.Cut.{IsCut, EndsWithEnd, book_left}
+use Rattle.session_course.specs.Cut.{IsReading, IsCut, EndsWithEnd, AreOpen, book_left}
 use Rattle.session_course.specs.Refusals.{IsEndless, IsFormless, IsOversized, IsUnclosed, IsRefused}
 use Rattle.session_course.specs.Answers.{AreAnswers}
 
@@ -122,3 +122,19 @@ pub record AreSame {ended : Bool} {from : Book} {bytes : List ℕ} (a b : Course
 pub record HasOneCourse (ended : Bool) (from : Book) (bytes : List ℕ) : Type 0 where
   pub course : Course ended from bytes
   pub alone : (other : Course ended from bytes) → AreSame other course
+
+-- what a reader knows on its way: these commands are read, none of them is `end`, and the rest follows
+pub record IsOpen (ended : Bool) (from : Book) (commands : List Command) (bytes rest : List ℕ) : Type 0 where
+  pub reading : IsReading ended from commands bytes rest
+  pub open_ : AreOpen commands
+
+-- a row that holds whatever follows: 2 to 6
+pub record IsForGood (from : Book) (commands : List Command) (bytes rest : List ℕ) (stop : Stop) : Type 0 where
+  pub after : 1 < row_of stop
+  pub before : row_of stop < 7
+  pub holds : Holds from commands bytes rest stop
+
+-- the session is done exactly where its commands end with `end`
+pub record IsDoneByEnd {ended : Bool} {from : Book} {bytes : List ℕ} (c : Course ended from bytes) : Type 0 where
+  pub read : course_ending c ≡ Ending.Done → EndsWithEnd c.commands
+  pub done : EndsWithEnd c.commands → course_ending c ≡ Ending.Done

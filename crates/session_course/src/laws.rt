@@ -7,7 +7,8 @@ ghost use Rattle.book_model.specs.Laws.{OneReading};
 ghost use Rattle.session_course.specs.Answers.{AreAnswers, HasAnswers, IsAnswer, SomeReading};
 ghost use Rattle.session_course.specs.Commands.{Command};
 ghost use Rattle.session_course.specs.Cut.{IsCut};
-ghost use Rattle.session_course.specs.Stops.{AreSame, Course, HasOneCourse};
+ghost use Rattle.session_course.specs.Stops.{AreSame, Course, HasOneCourse, IsDoneByEnd};
+ghost use Rattle.session_course.specs.Stops.{IsForGood, IsOpen, Stop};
 
 /// A law: over one book an input has at most one cut, so that its commands and their answers are fixed
 /// by its bytes.
@@ -33,6 +34,21 @@ pub fn one_course()
 /// speak of what there is.
 pub fn each_input_has_a_course()
     ensures { (ended : Bool) (from : Book) (bytes : List ℕ) → HasOneCourse ended from bytes }
+{}
+
+/// A law: after commands of which none is `end`, a row of the table that holds whatever follows ends the
+/// cut: a long line, a line without form, a number above its limit, a put without its LF, or a refused
+/// edit.
+pub fn rows_end_the_cut()
+    ensures { (ended : Bool) (from : Book) (cs : List Command) (bytes rest : List ℕ) (s : Stop)
+        → IsOpen ended from cs bytes rest → IsForGood from cs bytes rest s
+        → IsCut ended from cs bytes rest }
+{}
+
+/// A law: a session is done exactly where its commands end with `end`.
+pub fn done_by_end_alone()
+    ensures { (ended : Bool) (from : Book) (bytes : List ℕ) (c : Course ended from bytes)
+        → IsDoneByEnd c }
 {}
 
 /// A law: where texts have one reading, each command has at most one answer, and so have commands one

@@ -2,11 +2,12 @@
 //! the table of stops, the course of an input over a book, its answers and its ending.
 //!
 //! Read `specs/Commands`, `specs/Cut`, `specs/Refusals`, `specs/Answers` and `specs/Stops` in this order.
-//! `specs/Worked` has evaluated examples, `laws` what holds of all.
+//! `proofs/Worked` has worked examples, `laws` what holds of all.
 #![tactic(auto)]
 
 mod laws;
 
 pub use laws::{
-    answers_exist, cut_exists, each_input_has_a_course, one_answer_each, one_course, one_cut,
+    answers_exist, cut_exists, done_by_end_alone, each_input_has_a_course, one_answer_each,
+    one_course, one_cut, rows_end_the_cut,
 };
