@@ -3,7 +3,7 @@ use Rattle.std.proofs.Common.{◌≡◌, ℕ, Bool, List, refl, arith}
 use Rattle.book_model.specs.Book.{Book}
 use Rattle.session_course.specs.Commands.{Command}
 use Rattle.session_course.specs.Cut.{EndsWithEnd, IsCut}
-use Rattle.session_course.specs.Stops.{Stop, IsStop, Course, Ending, ending_at, course_ending, IsOpen, IsForGood, IsDoneByEnd}
+use Rattle.session_course.specs.Stops.{Stop, IsStop, Course, Ending, ending_at, IsOpen, IsForGood, IsDoneByEnd}
 use Rattle.session_course.proofs.CutLaws.{cut_stops}
 use Rattle.session_course.proofs.RowLaws.{row_none}
 
