@@ -1,0 +1,2 @@
+pub mod Leasts
+mod Sorting
