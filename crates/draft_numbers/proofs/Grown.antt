@@ -49,7 +49,7 @@ pub numbered_push : (n : ℕ) (xs : List DraftNode) (x : DraftNode) → numbered
 numbered_push n [] x = let e : n ≡ n + 0 = omega arith in ap (λ m. node_of m x.what ∷ []) e
 numbered_push n (y ∷ xs) x = ap (λ t. node_of n y.what ∷ t) (numbered_push (after_node n y.what) xs x
     ∙ ap (λ m. numbered (after_node n y.what) xs ++ node_of m x.what ∷ [])
-    (after_is n (length (names xs)) y.what ∙ ap (λ k. n + k) (sym (length-append (name_in y.what) (names xs)))))
+        (after_is n (length (names xs)) y.what ∙ ap (λ k. n + k) (sym (length-append (name_in y.what) (names xs)))))
 
 -- References more.
 
@@ -67,8 +67,7 @@ added_twice e ms ns r = refs_are
     ((r.references ++ map (reference e) ms) ++ map (reference e) ns) (r.references ++ map (reference e) (ms ++ ns))
     ((r.places ++ map (λ m. m.path.place) ms) ++ map (λ m. m.path.place) ns) (r.places ++ map (λ m. m.path.place) (ms ++ ns))
     (append_assoc r.references (map (reference e) ms) (map (reference e) ns) ∙ ap (λ t. r.references ++ t) (sym (map-append (reference e) ms ns)))
-    (append_assoc r.places (map (λ (m : Mention). m.path.place) ms) (map (λ (m : Mention). m.path.place) ns)
-    ∙ ap (λ t. r.places ++ t) (sym (map-append (λ (m : Mention). m.path.place) ms ns)))
+    (append_assoc r.places (map (λ (m : Mention). m.path.place) ms) (map (λ (m : Mention). m.path.place) ns) ∙ ap (λ t. r.places ++ t) (sym (map-append (λ (m : Mention). m.path.place) ms ns)))
 
 pub next_added : (e : ℕ) (ms : List Mention) (r : Refs) → next (added e ms r) ≡ next r + length ms
 next_added e ms r = length-append r.references (map (reference e) ms) ∙ ap (λ n. next r + n) (length-map ms (reference e))
@@ -92,13 +91,11 @@ pub references_grown : (l : Lists) (ds : List Draft) → (with_drafts l ds).refs
 references_grown l [] = sym (append-nil l.refs.references)
 references_grown l (d ∷ ds) = references_grown (with_draft d l) ds
     ∙ (append_assoc l.refs.references (map (reference (length l.elements)) (mentions_of d)) (references_from (length (with_draft d l).elements) ds)
-    ∙ ap (λ n. l.refs.references ++ (map (reference (length l.elements)) (mentions_of d) ++ references_from n ds))
-    (one_longer l.elements (element (next l.refs) d)))
+    ∙ ap (λ n. l.refs.references ++ (map (reference (length l.elements)) (mentions_of d) ++ references_from n ds)) (one_longer l.elements (element (next l.refs) d)))
 
 pub places_grown : (l : Lists) (ds : List Draft) → (with_drafts l ds).refs.places ≡ l.refs.places ++ reference_places ds
 places_grown l [] = sym (append-nil l.refs.places)
-places_grown l (d ∷ ds) = places_grown (with_draft d l) ds
-    ∙ append_assoc l.refs.places (map (λ (m : Mention). m.path.place) (mentions_of d)) (reference_places ds)
+places_grown l (d ∷ ds) = places_grown (with_draft d l) ds ∙ append_assoc l.refs.places (map (λ (m : Mention). m.path.place) (mentions_of d)) (reference_places ds)
 
 pub items_grown : (l : Lists) (ds : List Draft) → (with_drafts l ds).items ≡ l.items ++ map (λ d. d.items) ds
 items_grown l [] = sym (append-nil l.items)
@@ -165,8 +162,7 @@ nodes_more e r ys x base now so_far = ap (added e (mentions r (name_in x.what)))
     ∙ ap (λ ms. added e ms base) (sym (mentions_append r (names ys) (name_in x.what)) ∙ ap (mentions r) (sym (names_push ys x))))
 
 -- the number of the next reference, where the names of nodes are behind it
-pub next_after : (e : ℕ) (r : Role) (ys : List DraftNode) (base now : Refs) → now ≡ added e (mentions r (names ys)) base
-    → next now ≡ next base + length (names ys)
+pub next_after : (e : ℕ) (r : Role) (ys : List DraftNode) (base now : Refs) → now ≡ added e (mentions r (names ys)) base → next now ≡ next base + length (names ys)
 next_after e r ys base now so_far = ap next so_far ∙ (next_added e (mentions r (names ys)) base ∙ ap (λ n. next base + n) (length_mentions r (names ys)))
 
 pub expr_more : (e : ℕ) (r : Role) (ys : List DraftNode) (x : DraftNode) (base now : Refs) (expr : List Node) (n : Node)
@@ -187,8 +183,7 @@ ends_are (a ∷ b ∷ ns) = refl
 pub two_are : (ns rest : List DraftNode) (a b : DraftNode) → take 2 ns ≡ (rest ++ a ∷ []) ++ b ∷ [] → ends ns ≡ a ∷ b ∷ []
 two_are ns [] a b e = ends_are ns ∙ e
 two_are ns (x ∷ xs) a b e =
-    let long : length (take 2 ns) ≡ suc (length xs + 1) + 1 =
-    ap length e ∙ (length-append ((x ∷ xs) ++ a ∷ []) (b ∷ []) ∙ ap (λ n. suc n + 1) (length-append xs (a ∷ []))) in
+    let long : length (take 2 ns) ≡ suc (length xs + 1) + 1 = ap length e ∙ (length-append ((x ∷ xs) ++ a ∷ []) (b ∷ []) ∙ ap (λ n. suc n + 1) (length-append xs (a ∷ []))) in
     let short : length (take 2 ns) ≡ min 2 (length ns) = length-take 2 ns in
     absurd (omega arith)
 
@@ -202,4 +197,4 @@ pub two_added : (e : ℕ) (r : Role) (ns : List DraftNode) (a b : DraftNode) (r0
 two_added e r ns a b r0 r1 r2 is one two =
     then_added e (mentions r (name_in a.what)) (mentions r (name_in b.what)) r0 r1 r2 one two
     ∙ ap (λ ms. added e ms r0) (sym (mentions_append r (name_in a.what) (name_in b.what))
-    ∙ ap (mentions r) (ap (λ t. name_in a.what ++ t) (sym (append-nil (name_in b.what))) ∙ ap names (sym is)))
+        ∙ ap (mentions r) (ap (λ t. name_in a.what ++ t) (sym (append-nil (name_in b.what))) ∙ ap names (sym is)))

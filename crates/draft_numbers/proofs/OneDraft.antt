@@ -23,7 +23,7 @@ pub headed : (e : ℕ) (d : Draft) (r0 r2 r3 r5 : Refs) → r2 ≡ added e (own_
     → r5 ≡ added e (value_mentions d) r3 → r5 ≡ added e (head d) r0
 headed e d r0 r2 r3 r5 own bounds values =
     then_added e (own_mentions d) (bound_mentions d ++ value_mentions d) r0 r2 r5 own
-    (then_added e (bound_mentions d) (value_mentions d) r2 r3 r5 bounds values)
+      (then_added e (bound_mentions d) (value_mentions d) r2 r3 r5 bounds values)
 
 pub inner_begins : (e : ℕ) (d : Draft) (r0 r5 : Refs) → r5 ≡ added e (head d) r0 → next r5 ≡ next r0 + length (head d)
 inner_begins e d r0 r5 h = ap next h ∙ next_added e (head d) r0
@@ -31,16 +31,8 @@ inner_begins e d r0 r5 h = ap next h ∙ next_added e (head d) r0
 -- the element with these bounds and expressions
 abbrev pub element_as : Draft → Option Bounds → Option (List Node) → Option (List Node) → Element
 element_as d b v r = record {
-  kind = d.kind;
-  owner = d.owner;
-  short = d.short;
-  name = d.name;
-  marks = d.marks;
-  body = d.body;
-  locale = d.locale;
-  bounds = b;
-  value = v;
-  result = r;
+  kind = d.kind; owner = d.owner; short = d.short; name = d.name; marks = d.marks; body = d.body; locale = d.locale;
+  bounds = b; value = v; result = r;
 }
 
 -- the element is that of the model, where its parts begin there
@@ -51,7 +43,7 @@ element_is n d n2 n3 b v r two three bs vs rs =
     ap (λ x. element_as d x v r) (bs ∙ ap (λ k. bounds_of k d.bounds) two)
     ∙ (ap (λ x. element_as d (bounds_of (bound_start n d) d.bounds) x r) (vs ∙ ap (λ k. numbered_in k d.value) three)
     ∙ ap (λ x. element_as d (bounds_of (bound_start n d) d.bounds) (numbered_in (value_start n d) d.value) x)
-    (rs ∙ ap (λ k. numbered_in (k + length (names (nodes_of d.value))) d.result) three))
+        (rs ∙ ap (λ k. numbered_in (k + length (names (nodes_of d.value))) d.result) three))
 
 -- lists of equal parts are equal
 abbrev pub lists : List Element → List (List Item) → List ℕ → List (List ℕ) → List (List ℕ) → Refs → Lists
@@ -69,4 +61,4 @@ draft_taken l d e is b vs rs n r p1 p2 p3 p4 p5 p6 p7 =
     ∙ (ap (λ x. lists (with_draft d l).elements (with_draft d l).items (with_draft d l).bases (l.value_places ++ x ∷ []) (l.result_places ++ rs ∷ []) r) p4
     ∙ (ap (λ x. lists (with_draft d l).elements (with_draft d l).items (with_draft d l).bases (with_draft d l).value_places (l.result_places ++ x ∷ []) r) p5
     ∙ ap (λ x. lists (with_draft d l).elements (with_draft d l).items (with_draft d l).bases (with_draft d l).value_places (with_draft d l).result_places x)
-    (p6 ∙ ap (λ k. added k (mentions_of d) l.refs) p7)))))
+        (p6 ∙ ap (λ k. added k (mentions_of d) l.refs) p7)))))

@@ -96,7 +96,12 @@ impl References {
     }
 
     /// A reference for each name.
-    pub fn add_paths(&mut self, context: u32, role: Role, paths: Vec<Path>) -> Result<(), NoMemory>
+    pub fn add_paths(
+        &mut self,
+        context: u32,
+        role: Role,
+        paths: Vec<Path>,
+    ) -> Result<(), NoMemory>
         ensures { OnOk result (self.new ≡ added context (mentions role paths.items) self.old) }
     {
         for path in paths {

@@ -8,6 +8,6 @@ loop-node-preserved c =
     let l = c.loop-node in
     record {
       expr = c.in_ok-push.ensures.ok ∙ expr_more c.args.context role.Value l.yielded c.in-Some.node c.args.self.now l.self l.expr c.in_ok-add_node.field-0
-          l.invariant.added l.invariant.expr c.in_ok-add_node.ensures.node;
+        l.invariant.added l.invariant.expr c.in_ok-add_node.ensures.node;
       added = c.in_ok-add_node.ensures.added ∙ nodes_more c.args.context role.Value l.yielded c.in-Some.node c.args.self.now l.self l.invariant.added;
     }

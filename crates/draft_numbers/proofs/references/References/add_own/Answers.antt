@@ -8,5 +8,5 @@ pub returns : goal.returns
 returns c =
     let e = c.args.context in
     then_added e (mentions c.args.role c.args.own) c.args.specs c.args.self.now c.add_paths.new.self c.add_mentions.new.self
-    (c.in_ok-add_paths.ensures ∙ ap (λ ps. added e (mentions c.args.role ps) c.args.self.now) c.into_vec.ensures)
-    (c.in_ok-add_mentions.ensures ∙ ap (λ ms. added e ms c.add_paths.new.self) c.into_vec-2.ensures)
+      (c.in_ok-add_paths.ensures ∙ ap (λ ps. added e (mentions c.args.role ps) c.args.self.now) c.into_vec.ensures)
+      (c.in_ok-add_mentions.ensures ∙ ap (λ ms. added e ms c.add_paths.new.self) c.into_vec-2.ensures)

@@ -1,0 +1,4 @@
+use Rattle.draft_numbers.proofs.numbering.number.Goals as goal
+
+pub returns : goal.returns
+returns c = ?
