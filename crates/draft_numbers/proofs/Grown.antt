@@ -1,7 +1,7 @@
 -- The lists as they grow are those of the model.
 use Rattle.std.proofs.Common.{◌≡◌, ℕ, zero, suc, ◌+◌, List, [], ◌∷◌, ◌++◌, length, map, refl, ap, sym, ◌∙◌, append_assoc, arith, take, min}
 use Rattle.std.proofs.lemmas.List.{append-nil, map-append, length-append, length-map, length-take}
-use Rattle.std.specs.Prelude.{Option, Some, None, slice_get, slice_index_or}
+use Rattle.std.specs.Prelude.{slice_get, slice_index_or}
 use Rattle.element_store.specs.declared.outcome.Role.{Role}
 use Rattle.element_store.specs.declared.records.Reference.{Reference}
 use Rattle.element_store.specs.declared.expression.Node.{Node}
@@ -13,7 +13,7 @@ use Rattle.text_model.specs.declared.draft.What.TheVariants as what
 use Rattle.text_model.specs.declared.draft.Path.{Path}
 use Rattle.text_model.specs.Drafts.{mention, mentions, name_in, names}
 use Rattle.text_model.specs.Numbering.{after_node, base_from, draft_at, element, elements_from, ends, head, mentions_of, node_of, nodes_of, numbered, places_of, reference, reference_places, references_from, width}
-use Rattle.draft_numbers.specs.Numbered.{Lists, Refs, added, name_of, next, no_lists, short_of, with_draft, with_drafts}
+use Rattle.draft_numbers.specs.Numbered.{Lists, Refs, added, name_of, next, short_of, with_draft, with_drafts}
 
 -- Names and nodes, one more.
 
@@ -104,15 +104,15 @@ pub items_grown : (l : Lists) (ds : List Draft) → (with_drafts l ds).items ≡
 items_grown l [] = sym (append-nil l.items)
 items_grown l (d ∷ ds) = items_grown (with_draft d l) ds ∙ append_assoc l.items (d.items ∷ []) (map (λ (d : Draft). d.items) ds)
 
-pub value_places_grown : (l : Lists) (ds : List Draft) → (with_drafts l ds).value_places ≡ l.value_places ++ map (λ d. places_of (nodes_of d.value)) ds
-value_places_grown l [] = sym (append-nil l.value_places)
+pub value_places_grown : (l : Lists) (ds : List Draft) → (with_drafts l ds).values ≡ l.values ++ map (λ d. places_of (nodes_of d.value)) ds
+value_places_grown l [] = sym (append-nil l.values)
 value_places_grown l (d ∷ ds) = value_places_grown (with_draft d l) ds
-    ∙ append_assoc l.value_places (places_of (nodes_of d.value) ∷ []) (map (λ (d : Draft). places_of (nodes_of d.value)) ds)
+    ∙ append_assoc l.values (places_of (nodes_of d.value) ∷ []) (map (λ (d : Draft). places_of (nodes_of d.value)) ds)
 
-pub result_places_grown : (l : Lists) (ds : List Draft) → (with_drafts l ds).result_places ≡ l.result_places ++ map (λ d. places_of (nodes_of d.result)) ds
-result_places_grown l [] = sym (append-nil l.result_places)
+pub result_places_grown : (l : Lists) (ds : List Draft) → (with_drafts l ds).results ≡ l.results ++ map (λ d. places_of (nodes_of d.result)) ds
+result_places_grown l [] = sym (append-nil l.results)
 result_places_grown l (d ∷ ds) = result_places_grown (with_draft d l) ds
-    ∙ append_assoc l.result_places (places_of (nodes_of d.result) ∷ []) (map (λ (d : Draft). places_of (nodes_of d.result)) ds)
+    ∙ append_assoc l.results (places_of (nodes_of d.result) ∷ []) (map (λ (d : Draft). places_of (nodes_of d.result)) ds)
 
 -- where the references of the aliases and imports of each begin, and where all end
 abbrev pub bases_from : ℕ → List Draft → List ℕ

@@ -1,5 +1,5 @@
 -- The references of one draft, part by part, and where each part begins.
-use Rattle.std.proofs.Common.{◌≡◌, ℕ, ◌+◌, ◌++◌, List, [], ◌∷◌, length, refl, ap, sym, ◌∙◌}
+use Rattle.std.proofs.Common.{◌≡◌, ℕ, ◌+◌, ◌++◌, List, length, ap, ◌∙◌}
 use Rattle.std.specs.Prelude.{Option}
 use Rattle.element_store.specs.declared.records.Element.{Element}
 use Rattle.element_store.specs.declared.expression.Node.{Node}
@@ -7,8 +7,9 @@ use Rattle.element_store.specs.declared.expression.Bounds.{Bounds}
 use Rattle.element_store.specs.declared.lists.Item.{Item}
 use Rattle.text_model.specs.declared.draft.Draft.{Draft}
 use Rattle.text_model.specs.Drafts.{names}
-use Rattle.text_model.specs.Numbering.{bound_mentions, bound_start, bounds_of, element, head, mentions_of, nodes_of, numbered_in, own_mentions, places_of, value_mentions, value_start}
-use Rattle.draft_numbers.specs.Numbered.{Lists, Refs, added, next, with_draft}
+use Rattle.text_model.specs.Numbering.{bound_mentions, bound_start, bounds_of, element, head, nodes_of, numbered_in, own_mentions, places_of, value_mentions, value_start}
+use Rattle.draft_numbers.specs.declared.numbering.Parts.{Parts}
+use Rattle.draft_numbers.specs.Numbered.{ArePartsOf, Lists, Refs, added, next, with_draft, with_element, with_parts, with_places, with_references}
 use Rattle.draft_numbers.proofs.Grown.{next_added, then_added}
 
 pub bounds_begin : (e : ℕ) (d : Draft) (r0 r2 : Refs) → r2 ≡ added e (own_mentions d) r0 → next r2 ≡ bound_start (next r0) d
@@ -53,20 +54,16 @@ element_is n d n2 n3 b v r two three bs vs rs =
     ∙ ap (λ x. element_as d (bounds_of (bound_start n d) d.bounds) (numbered_in (value_start n d) d.value) x)
     (rs ∙ ap (λ k. numbered_in (k + length (names (nodes_of d.value))) d.result) three))
 
--- lists of equal parts are equal
-abbrev pub lists : List Element → List (List Item) → List ℕ → List (List ℕ) → List (List ℕ) → Refs → Lists
-lists es is bs vs rs r = record { elements = es; items = is; bases = bs; value_places = vs; result_places = rs; refs = r }
+-- the element that comes of these, and its items, where the references of its aliases and imports begin, and its places
+abbrev pub with_these : Element → List Item → ℕ → List ℕ → List ℕ → Lists → Lists
+with_these e is b vs rs l = with_places vs rs (with_element e is b l)
 
--- lists with these parts more have taken the draft
-pub draft_taken : (l : Lists) (d : Draft) (e : Element) (is : List Item) (b : ℕ) (vs rs : List ℕ) (n : ℕ) (r : Refs)
-    → e ≡ element (next l.refs) d → is ≡ d.items → b ≡ next l.refs + length (head d) → vs ≡ places_of (nodes_of d.value)
-    → rs ≡ places_of (nodes_of d.result) → r ≡ added n (mentions_of d) l.refs → n ≡ length l.elements
-    → lists (l.elements ++ e ∷ []) (l.items ++ is ∷ []) (l.bases ++ b ∷ []) (l.value_places ++ vs ∷ []) (l.result_places ++ rs ∷ []) r ≡ with_draft d l
-draft_taken l d e is b vs rs n r p1 p2 p3 p4 p5 p6 p7 =
-    ap (λ x. lists (l.elements ++ x ∷ []) (l.items ++ is ∷ []) (l.bases ++ b ∷ []) (l.value_places ++ vs ∷ []) (l.result_places ++ rs ∷ []) r) p1
-    ∙ (ap (λ x. lists (with_draft d l).elements (l.items ++ x ∷ []) (l.bases ++ b ∷ []) (l.value_places ++ vs ∷ []) (l.result_places ++ rs ∷ []) r) p2
-    ∙ (ap (λ x. lists (with_draft d l).elements (with_draft d l).items (l.bases ++ x ∷ []) (l.value_places ++ vs ∷ []) (l.result_places ++ rs ∷ []) r) p3
-    ∙ (ap (λ x. lists (with_draft d l).elements (with_draft d l).items (with_draft d l).bases (l.value_places ++ x ∷ []) (l.result_places ++ rs ∷ []) r) p4
-    ∙ (ap (λ x. lists (with_draft d l).elements (with_draft d l).items (with_draft d l).bases (with_draft d l).value_places (l.result_places ++ x ∷ []) r) p5
-    ∙ ap (λ x. lists (with_draft d l).elements (with_draft d l).items (with_draft d l).bases (with_draft d l).value_places (with_draft d l).result_places x)
-    (p6 ∙ ap (λ k. added k (mentions_of d) l.refs) p7)))))
+-- the parts of a draft, behind its references, are what comes next
+pub draft_taken : (l : Lists) (d : Draft) (p : Parts) → ArePartsOf l d p → with_parts p (with_references d l) ≡ with_draft d l
+draft_taken l d p a =
+    let m = with_references d l in
+    ap (λ x. with_these x p.items p.base p.values.items p.results.items m) a.element
+    ∙ (ap (λ x. with_these (element (next l.refs) d) x p.base p.values.items p.results.items m) a.items
+    ∙ (ap (λ x. with_these (element (next l.refs) d) d.items x p.values.items p.results.items m) a.base
+    ∙ (ap (λ x. with_these (element (next l.refs) d) d.items (next l.refs + length (head d)) x p.results.items m) a.values
+    ∙ ap (λ x. with_these (element (next l.refs) d) d.items (next l.refs + length (head d)) (places_of (nodes_of d.value)) x m) a.results)))

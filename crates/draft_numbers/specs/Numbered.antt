@@ -1,5 +1,5 @@
 -- The lists of a model as they grow, a draft at a time.
-use Rattle.std.specs.Prelude.{ℕ, ◌+◌, Option, Some, None, List, [], ◌∷◌, ◌++◌, length, map, slice_get, slice_index_or}
+use Rattle.std.specs.Prelude.{◌≡◌, ℕ, ◌+◌, Option, Some, None, List, [], ◌∷◌, ◌++◌, length, map, slice_get, slice_index_or}
 use Rattle.element_store.specs.declared.lists.Item.{Item}
 use Rattle.element_store.specs.declared.records.Element.{Element}
 use Rattle.element_store.specs.declared.records.Member.{Member}
@@ -15,7 +15,11 @@ use Rattle.text_model.specs.declared.draft.DraftMember.{DraftMember}
 use Rattle.text_model.specs.declared.draft.DraftImport.{DraftImport}
 use Rattle.element_store.specs.declared.outcome.Role.TheVariants as role
 use Rattle.text_model.specs.Drafts.{mentions, names}
-use Rattle.text_model.specs.Numbering.{element, head, mentions_of, nodes_of, places_of, reference}
+use Rattle.element_store.specs.Model.{Data}
+use Rattle.draft_numbers.specs.declared.numbering.Heading.{Heading}
+use Rattle.draft_numbers.specs.declared.numbering.Parts.{Parts}
+use Rattle.text_model.specs.Numbering.{element, head, mentions_of, model_of, nodes_of, places_of, reference}
+use Rattle.text_model.specs.Walk.{Walk}
 
 -- references and their places
 pub record Refs : Type 0 where
@@ -46,8 +50,8 @@ pub record Lists : Type 0 where
   pub elements : List Element
   pub items : List (List Item)
   pub bases : List ℕ
-  pub value_places : List (List ℕ)
-  pub result_places : List (List ℕ)
+  pub values : List (List ℕ)
+  pub results : List (List ℕ)
   pub refs : Refs
 
 abbrev pub no_lists : Lists
@@ -55,29 +59,38 @@ no_lists = record {
   elements = [];
   items = [];
   bases = [];
-  value_places = [];
-  result_places = [];
+  values = [];
+  results = [];
   refs = no_refs;
 }
 
 -- one part more
-abbrev pub with_base : ℕ → Lists → Lists
-with_base b l = record l { bases = l.bases ++ b ∷ [] }
+abbrev pub with_element : Element → List Item → ℕ → Lists → Lists
+with_element e is b l = record l {
+  elements = l.elements ++ e ∷ [];
+  items = l.items ++ is ∷ [];
+  bases = l.bases ++ b ∷ [];
+}
 
-abbrev pub with_items : List Item → Lists → Lists
-with_items is l = record l { items = l.items ++ is ∷ [] }
-
-abbrev pub with_element : Element → Lists → Lists
-with_element e l = record l { elements = l.elements ++ e ∷ [] }
-
-abbrev pub with_values : List ℕ → Lists → Lists
-with_values ps l = record l { value_places = l.value_places ++ ps ∷ [] }
-
-abbrev pub with_results : List ℕ → Lists → Lists
-with_results ps l = record l { result_places = l.result_places ++ ps ∷ [] }
+abbrev pub with_places : List ℕ → List ℕ → Lists → Lists
+with_places vs rs l = record l {
+  values = l.values ++ vs ∷ [];
+  results = l.results ++ rs ∷ [];
+}
 
 abbrev pub with_references : Draft → Lists → Lists
 with_references d l = record l { refs = added (length l.elements) (mentions_of d) l.refs }
+
+abbrev pub with_parts : Parts → Lists → Lists
+with_parts p l = with_places p.values.items p.results.items (with_element p.element p.items p.base l)
+
+-- the parts of a draft that comes next
+pub record ArePartsOf (l : Lists) (d : Draft) (p : Parts) : Type 0 where
+  pub element : p.element ≡ element (next l.refs) d
+  pub items : p.items ≡ d.items
+  pub base : p.base ≡ next l.refs + length (head d)
+  pub values : p.values.items ≡ places_of (nodes_of d.value)
+  pub results : p.results.items ≡ places_of (nodes_of d.result)
 
 -- an element more
 abbrev pub with_draft : Draft → Lists → Lists
@@ -85,8 +98,8 @@ with_draft d l = record {
   elements = l.elements ++ element (next l.refs) d ∷ [];
   items = l.items ++ d.items ∷ [];
   bases = l.bases ++ (next l.refs + length (head d)) ∷ [];
-  value_places = l.value_places ++ places_of (nodes_of d.value) ∷ [];
-  result_places = l.result_places ++ places_of (nodes_of d.result) ∷ [];
+  values = l.values ++ places_of (nodes_of d.value) ∷ [];
+  results = l.results ++ places_of (nodes_of d.result) ∷ [];
   refs = added (length l.elements) (mentions_of d) l.refs;
 }
 
@@ -132,3 +145,24 @@ import_as l i = record {
   all = i.all;
   visibility = i.visibility;
 }
+
+-- the lists of a model with these members, their places, and these imports
+abbrev pub data_with : Heading → Lists → List Member → List ℕ → List Import → Data
+data_with h l ms ps is = record {
+  file = h.file;
+  language = h.language;
+  elements = l.elements;
+  items = l.items;
+  members = ms;
+  references = l.refs.references;
+  imports = is;
+  member_places = ps;
+  reference_places = l.refs.places;
+  value_places = l.values;
+  result_places = l.results;
+}
+
+-- the lists of the model of each walk that has these elements, members and imports
+abbrev pub IsNumbered : Heading → List Draft → List DraftMember → List DraftImport → Data → Type 0
+IsNumbered h ds ms is found = (w : Walk) → w.elements ≡ ds → w.members ≡ ms → w.imports ≡ is
+    → found ≡ model_of h.file h.language w

@@ -1,4 +1,4 @@
-use Rattle.std.proofs.Common.{◌≡◌, ◌++◌, ◌∷◌, [], ap, sym, ◌∙◌}
+use Rattle.std.proofs.Common.{◌++◌, ◌∷◌, [], ap, sym, ◌∙◌}
 use Rattle.element_store.specs.declared.outcome.Role.TheVariants as role
 use Rattle.draft_numbers.proofs.Grown.{two_added, two_are}
 use Rattle.draft_numbers.proofs.references.References.add_bounds.Goals as goal

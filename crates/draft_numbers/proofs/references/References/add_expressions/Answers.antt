@@ -1,4 +1,4 @@
-use Rattle.std.proofs.Common.{◌≡◌, ap, ◌∙◌}
+use Rattle.std.proofs.Common.{ap, ◌∙◌}
 use Rattle.element_store.specs.declared.outcome.Role.TheVariants as role
 use Rattle.text_model.specs.Drafts.{mentions, names}
 use Rattle.text_model.specs.Numbering.{nodes_of, numbered_in}

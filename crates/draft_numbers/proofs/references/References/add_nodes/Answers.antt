@@ -1,4 +1,4 @@
-use Rattle.std.proofs.Common.{◌≡◌, ap, sym, ◌∙◌}
+use Rattle.std.proofs.Common.{◌∙◌}
 use Rattle.element_store.specs.declared.outcome.Role.TheVariants as role
 use Rattle.draft_numbers.proofs.Grown.{expr_more, nodes_more}
 use Rattle.draft_numbers.proofs.references.References.add_nodes.Goals as goal

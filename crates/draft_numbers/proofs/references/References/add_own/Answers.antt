@@ -1,4 +1,4 @@
-use Rattle.std.proofs.Common.{◌≡◌, ap, ◌∙◌}
+use Rattle.std.proofs.Common.{ap, ◌∙◌}
 use Rattle.text_model.specs.Drafts.{mentions}
 use Rattle.draft_numbers.specs.Numbered.{added}
 use Rattle.draft_numbers.proofs.Grown.{then_added}

@@ -1,4 +1,4 @@
-use Rattle.std.proofs.Common.{◌≡◌, ap, sym, ◌∙◌}
+use Rattle.std.proofs.Common.{◌∙◌}
 use Rattle.draft_numbers.proofs.Grown.{paths_more}
 use Rattle.draft_numbers.proofs.references.References.add_paths.Goals as goal
 
