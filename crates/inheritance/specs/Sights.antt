@@ -1,6 +1,7 @@
 -- What a search reads: the links decided so far, or as if no link were to come any more.
 use Rattle.std.specs.Prelude.{Bool, true, false, cond, List, [], ◌∷◌, ◌++◌, Option, Some}
 use Rattle.std.specs.Option.{option_map_or}
+use Rattle.demand_core.specs.Computation.{◌>>=◌, joined}
 use Rattle.demand_core.specs.Gather.{follow}
 use Rattle.element_store.specs.declared.numbers.ElementNo.{ElementNo}
 use Rattle.element_store.specs.declared.outcome.Outcome.{Outcome}
@@ -9,7 +10,8 @@ use Rattle.element_store.specs.Stored.{AreFiles}
 use Rattle.link_model.specs.declared.keys.LinkKey.{LinkKey}
 use Rattle.link_model.specs.Inheritance.{general}
 use Rattle.link_model.specs.Keys.{same_element}
-use Rattle.link_model.specs.Readers.{Lookup, LinkWorld, most}
+use Rattle.link_model.specs.Names.{redefinitions}
+use Rattle.link_model.specs.Readers.{Lookup, LinkWorld, most, target}
 use Rattle.link_model.specs.Settled.{explicit_links}
 use Rattle.link_walk.specs.Calls.{reading, AreLinks}
 use Rattle.link_walk.specs.Marks.{marked}
@@ -44,3 +46,7 @@ explicit_reached t = follow same_element explicit_links general most t
 -- an element is found, and marked where it wasn't
 abbrev pub found_if : Bool → ElementNo → LinkTrail ElementNo → LinkTrail ElementNo
 found_if b e t = cond b (record t { nodes = marked same_element t.nodes e; found = t.found ++ e ∷ [] }) t
+
+-- what a feature redefines directly
+abbrev pub direct_targets : ElementNo → Lookup (List ElementNo)
+direct_targets f = redefinitions f >>= joined target

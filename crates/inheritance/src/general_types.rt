@@ -54,7 +54,7 @@ impl<'a> Links<ElementNo> for Generals<'a> {
 }
 
 /// Expands a type: its specialisations are read and taken, and its base.
-pub(crate) fn expand_general(
+pub fn expand_general(
     alloc: Global,
     sight: &Sight,
     node: ElementNo,
@@ -144,7 +144,7 @@ fn take_base(
 }
 
 /// The types that are reached by generals.
-pub(crate) fn reached(
+pub fn reached(
     alloc: Global,
     sight: &Sight,
     of: ElementNo,

@@ -9,3 +9,6 @@ mod redefined;
 mod sight;
 
 pub use calls::{all_redefined, generals, settled_generals, settled_redefined, specialises};
+pub use general_types::{expand_general, reached};
+pub use redefined::{redefined_directly, redefined_from, redefined_from_all};
+pub use sight::Sight;

@@ -1,5 +1,6 @@
 ghost use Rattle.std.specs.Prelude.{◌≡◌, IfOk, OnOk};
 ghost use Rattle.linker_base.specs.Members.{IsMember};
+ghost use Rattle.demand_core.specs.Computation.{joined};
 ghost use Rattle.demand_core.specs.Search.{IsAsked};
 ghost use Rattle.element_store.specs.BaseRules.{StandsIn};
 ghost use Rattle.element_store.specs.declared.numbers.ElementNo.{ElementNo};
@@ -9,13 +10,13 @@ ghost use Rattle.link_model.specs.Names.{redefinitions};
 ghost use Rattle.link_model.specs.Readers.{target};
 ghost use Rattle.link_walk.specs.Calls.{ReferenceStands, ends, elements_of};
 ghost use Rattle.link_walk.specs.Took.{took, took_all, expanded};
-ghost use Rattle.inheritance.specs.Sights.{IsClear, sees};
+ghost use Rattle.inheritance.specs.Sights.{IsClear, sees, direct_targets};
 ghost use Rattle.inheritance.specs.RedefinedLaws.{redefined_closed, redefinitions_regular, target_ends_regular};
 
 use crate::sight::Sight;
 use element_store::ElementNo;
 use link_model::LinkKey;
-use link_walk::{Links, Trail, Wanted, model, references_of, walk_from};
+use link_walk::{Links, Trail, Wanted, model, references_of, walk, walk_from};
 use linker_base::NoMemory;
 use std::alloc::Global;
 
@@ -108,8 +109,38 @@ fn take_redefinition(
     }
 }
 
+/// What a feature redefines directly.
+pub fn redefined_directly(
+    alloc: Global,
+    sight: &Sight,
+    of: ElementNo,
+) -> Result<Trail<ElementNo>, NoMemory>
+    requires clear { IsClear sight.now }
+    requires stands { StandsIn sight.now.view.now.models.now of }
+    ensures { IfOk result (λ trail. IsAsked trail (direct_targets of (sees sight.now))) }
+{
+    let mut trail = Trail::new(alloc);
+    expand_redefined(alloc, sight, of, &mut trail)?;
+    Ok(trail)
+}
+
+/// The features that one of these redefines, directly or on the way. Each feature is expanded once.
+pub fn redefined_from_all(
+    alloc: Global,
+    sight: &Sight,
+    starts: &[ElementNo],
+) -> Result<Trail<ElementNo>, NoMemory>
+    requires clear { IsClear sight.now }
+    requires stand { (e : ElementNo) → IsMember starts.now e
+        → StandsIn sight.now.view.now.models.now e }
+    ensures { IfOk result (λ trail. IsAsked trail
+        (joined all_redefined starts.now (sees sight.now))) }
+{
+    walk(alloc, &Redefinitions { alloc, sight }, starts)
+}
+
 /// The features that are redefined on the way.
-pub(crate) fn redefined_from(
+pub fn redefined_from(
     alloc: Global,
     sight: &Sight,
     of: ElementNo,

@@ -12,10 +12,11 @@ use linker_base::NoMemory;
 
 /// What a search reads: the models, and the links decided so far.
 #[derive(Clone, Copy)]
-pub(crate) struct Sight<'a> {
-    pub(crate) view: &'a View<'a>,
+pub struct Sight<'a> {
+    /// What is seen.
+    pub view: &'a View<'a>,
     /// Whether no link is to come any more, so that an open reference counts as refused.
-    pub(crate) settled: bool,
+    pub settled: bool,
 }
 
 /// Notes a wait on an open reference, unless it counts as refused.
@@ -30,7 +31,7 @@ fn wait_unless(settled: bool, reference: LinkKey, notes: &mut Notes) -> Result<(
 
 impl<'a> Sight<'a> {
     /// What is seen through a view. A caller learns here what holds of its files.
-    pub(crate) fn new(view: &'a View<'a>, settled: bool) -> Self
+    pub fn new(view: &'a View<'a>, settled: bool) -> Self
         requires links { HasLinks view.now }
         ensures view { result.view.now ≡ view.now }
         ensures settled { result.settled ≡ settled }
@@ -42,7 +43,7 @@ impl<'a> Sight<'a> {
 
     /// The linked target of a reference. None comes where it is refused, and where it is open and
     /// waited on.
-    pub(crate) fn target(
+    pub fn target(
         &self,
         reference: LinkKey,
         notes: &mut Notes,

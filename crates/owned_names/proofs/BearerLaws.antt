@@ -166,7 +166,7 @@ abbrev Start : Type 0
 Start = Trail LinkKey LinkFact ElementNo Hit
 
 -- the union of all but the last, and the last
-joined_last : {A B : Type 0} (w : LinkWorld) (f : A → Lookup (List B)) (xs : List A) (x : A) → joined f (xs ++ x ∷ []) w ≡ join (joined f xs) (f x) w
+pub joined_last : {A B : Type 0} (w : LinkWorld) (f : A → Lookup (List B)) (xs : List A) (x : A) → joined f (xs ++ x ∷ []) w ≡ join (joined f xs) (f x) w
 joined_last w f [] x = λ i. record { step = (join_last (f x w).step ∙ sym (join_first (f x w).step)) i; looks = append-nil (f x w).looks i }
 joined_last w f (y ∷ xs) x =
     let more = joined_last w f xs x in

@@ -103,7 +103,7 @@ pub record AreSame (look : Fact LinkKey LinkFact) (a b : Hits) : Type 0 where
   pub right : (y : Fact LinkKey LinkFact) → IsMember b.looks y → IsMember a.looks y
 
 -- nothing is found, and nothing else looked at
-record IsNothing (look : Fact LinkKey LinkFact) (a : Hits) : Type 0 where
+pub record IsNothing (look : Fact LinkKey LinkFact) (a : Hits) : Type 0 where
   pub step : a.step ≡ Done []
   pub looks : (y : Fact LinkKey LinkFact) → IsMember a.looks y → look ≡ y
 
@@ -155,7 +155,7 @@ module _ (files : List StoredFile) (table : List (LinkKey × Outcome)) (f : File
   nothing_target k m (Owned c) is get none nil = nothing_named k c none (ap is_nil (owned_names_are d model k m c get is) ∙ nil)
   nothing_target k m (Alias r) is get none nil = record { step = refl; looks = λ y among. absurd among }
 
-  nothing_part : (k : ℕ) (m : Member) → slice_get d.members k ≡ Some m → is_redefining d.references m.target ≡ false
+  pub nothing_part : (k : ℕ) (m : Member) → slice_get d.members k ≡ Some m → is_redefining d.references m.target ≡ false
       → IsNothing look (effective_part d f x k (reading files table))
   nothing_part k m get none = elim (bool_cases (is_nil (declared_names m.short m.name))) [
     | inl nil ↦ rw (get, nil) (nothing_target k m m.target refl get none nil)

@@ -14,7 +14,7 @@ use linker_base::NoMemory;
 use std::alloc::Global;
 
 /// Takes the hit of a member with that target.
-fn take_hit(
+pub fn take_hit(
     view: &View,
     member: MemberNo,
     target: Target,

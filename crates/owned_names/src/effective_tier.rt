@@ -96,7 +96,7 @@ fn take_named(
 
 /// Takes the hit of a member that bears no declared name, if the element that it owns has the name all
 /// the same.
-fn take_effective(
+pub fn take_effective(
     alloc: Global,
     view: &View,
     model: &FileModel,

@@ -13,8 +13,8 @@ mod member;
 mod naming;
 mod passed;
 
-pub use declared_tier::{declared, declared_hits};
-pub use effective_tier::{effective, effective_hits, is_named};
+pub use declared_tier::{declared, declared_hits, take_hit};
+pub use effective_tier::{effective, effective_hits, is_named, take_effective};
 pub use link_model::{Hit, LinkFact, LinkKey, LinkLooks, LinkTable, View};
 pub use link_walk::{Found, Hits};
 pub use member::member_element;
