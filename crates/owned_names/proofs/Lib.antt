@@ -1,4 +1,4 @@
-mod BearerLaws
-mod HitLaws
-mod WayLaws
-mod SkipLaws
+pub mod BearerLaws
+pub mod HitLaws
+pub mod WayLaws
+pub mod SkipLaws
