@@ -1,0 +1,23 @@
+use Rattle.std.proofs.Common.{ap}
+use Rattle.book_model.specs.Answers.{Command as Asked}
+use Rattle.script_commands.specs.Lines.{command_of}
+use Rattle.sysml_session.proofs.Commands.{answered_as, end_answered}
+use Rattle.sysml_session.proofs.serving.answer.Goals as goal
+
+pub returns-in-Put : goal.returns-in-Put
+returns-in-Put g c = answered_as _ _ (Asked.Put c.in-Put.name c.in-Put.text) _ c.put.result _ _
+    (ap command_of c.in-Put.is) c.flow_after.ensures c.put.ensures.answered
+
+pub returns-in-Drop : goal.returns-in-Drop
+returns-in-Drop g c = answered_as _ _ (Asked.Drop c.in-Drop.name) _ c.drop.result _ _
+    (ap command_of c.in-Drop.is) c.flow_after-in-Drop.ensures c.drop.ensures.answered
+
+pub returns-in-Links : goal.returns-in-Links
+returns-in-Links g c = answered_as _ _ (Asked.Links c.in-Links.name) _ c.links.result _ _
+    (ap command_of c.in-Links.is) c.flow_after-in-Links.ensures c.links.ensures.answered
+
+pub returns-in-Check : goal.returns-in-Check
+returns-in-Check g c = answered_as _ _ Asked.Check _ c.check.result _ _ (ap command_of c.in-Check.is) c.flow_after-in-Check.ensures c.check.ensures.answered
+
+pub returns-in-End : goal.returns-in-End
+returns-in-End g c = end_answered _ _ _ c.give_end.result (ap command_of c.in-End.is) c.requires.whole c.give_end.ensures
