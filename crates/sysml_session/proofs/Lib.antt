@@ -1,3 +1,4 @@
+pub mod Bare
 pub mod Commands
 pub mod Loops
 pub mod Ways

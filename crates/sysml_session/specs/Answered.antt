@@ -41,3 +41,10 @@ IsAnswered before after c output (Err WriteFault) =
     (d : IsDone before after c) × GaveFront output d.has.answer × Fails output
 IsAnswered before after c output (Err NoMemory) =
     (Gave output [] ⊎ ((h : HasAnswer before c) × GaveFront output h.answer)) × IsSound output
+
+-- a piece was given whole, or after a failure a front of it
+abbrev pub IsGiven : Move → List ℕ → Result (Unit {0}) AnswerFault → Type 0
+IsGiven output piece (Ok u) = Gave output piece × IsSound output
+IsGiven output piece (Err WriteFault) = GaveFront output piece × Fails output
+IsGiven output piece (Err (Limit number)) = ⊥
+IsGiven output piece (Err NoMemory) = ⊥

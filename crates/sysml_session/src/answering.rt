@@ -1,10 +1,10 @@
 ghost use Rattle.std.specs.Prelude.{◌≡◌, false};
 ghost use Rattle.book_model.specs.Answers.{Command as Asked};
-ghost use Rattle.sysml_session.specs.Answered.{Holding, IsAnswered, across};
+ghost use Rattle.sysml_session.specs.Answered.{Holding, IsAnswered, IsGiven, across};
 
 use demand_core::{Ledger, Steps};
 use element_store::{FileName, Text};
-use outside_core::Sink;
+use outside_core::{Sink, give_all};
 
 /// Why a command has no whole answer.
 #[derive(Clone, Copy, Debug, PartialEq, Eq)]
@@ -57,4 +57,14 @@ pub trait Answering {
         requires whole { (holding self.old).broken ≡ false }
         ensures answered { IsAnswered (holding self.old) (holding self.new) Asked.Check
             (across K.given K.faults output.old output.new) result };
+}
+
+/// Gives a piece of an answer, whole or after a failure a front of it.
+pub fn give_piece<K: Sink>(output: &mut K, piece: &[u8]) -> Result<(), AnswerFault>
+    ensures { IsGiven (across K.given K.faults output.old output.new) piece.now result }
+{
+    match give_all(output, piece) {
+        Ok(()) => Ok(()),
+        Err(_) => Err(AnswerFault::WriteFault),
+    }
 }

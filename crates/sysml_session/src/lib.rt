@@ -5,7 +5,9 @@
 mod answering;
 mod fault;
 mod serving;
+#[cfg(test)]
+mod tests;
 
-pub use answering::{AnswerFault, Answering};
+pub use answering::{AnswerFault, Answering, give_piece};
 pub use fault::ServeFault;
 pub use serving::serve;
