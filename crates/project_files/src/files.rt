@@ -1,0 +1,114 @@
+ghost use Rattle.std.specs.Prelude.{◌≡◌, ◌<◌, ◌++◌, ◌∷◌, [], IfOk, OnErr, OnOk, None, length, map};
+ghost use Rattle.linker_base.specs.Members.{IsMember};
+ghost use Rattle.element_store.specs.Model.{Data};
+ghost use Rattle.book_model.specs.Files.{model_at, name_at, stored, text_at};
+ghost use Rattle.book_model.specs.Live.{HasModel, IsLiveMember, IsLiveReference};
+ghost use Rattle.book_model.specs.Queries.{member_place, reference_place};
+ghost use Rattle.written_names.specs.Spellable.{AreNamesSpellable};
+ghost use Rattle.project_files.specs.Kept.{ArePlacesWithin};
+
+use book_model::Place;
+use element_store::{FileModel, FileNo, MemberNo, Models, RefNo, Text};
+use linker_base::NoMemory;
+use source_text::SourceText;
+use std::alloc::Global;
+use std::marker::Model;
+use text_model::FileFault;
+
+/// What is kept of a text that is present: the text, and its fault, if it isn't in the profile.
+#[derive(Drop)]
+pub struct Kept {
+    pub text: SourceText,
+    pub fault: Option<FileFault>,
+}
+
+/// The files of a project, those of its library first, then those of its book in order of arrival. A
+/// file's number is its place among them. Contracts see the files.
+#[derive(Drop)]
+pub struct ProjectFiles {
+    models: Models,
+    contents: Vec<Option<Kept>>,
+}
+
+impl Model for ProjectFiles {
+    ghost use Rattle.std.specs.Prelude.{List};
+    ghost use Rattle.book_model.specs.Files.{ProjectFile};
+    ghost use Rattle.project_files.specs.Kept.{AreKept, files_of};
+
+    ghost Value = { List ProjectFile };
+
+    ghost view = { λ p. files_of p.models p.contents.items };
+
+    ghost invariant = { λ p. AreKept p.models p.contents.items };
+}
+
+impl ProjectFiles {
+    /// No files, which takes no memory.
+    pub fn new(alloc: Global) -> ProjectFiles
+        ensures { result ≡ [] }
+    {
+        ProjectFiles {
+            models: Models::new(alloc),
+            contents: Vec::new(alloc),
+        }
+    }
+
+    /// Lends the models, which links see.
+    pub fn models(&self) -> &Models
+        ensures { result.now ≡ stored self.now }
+    {
+        &self.models
+    }
+
+    /// Lends the name of a file.
+    pub fn name(&self, file: FileNo) -> &Text
+        requires { file.0 < length self.now }
+        ensures { result.now ≡ name_at self.now file }
+    {
+        self.models.name(file)
+    }
+
+    /// Lends the model of a file that has one.
+    pub fn model(&self, file: FileNo) -> &FileModel
+        requires { (d : Data) × HasModel self.now file d }
+        ensures model { result.now ≡ model_at self.now file }
+        ensures spellable { AreNamesSpellable result.now }
+    {
+        let Some(model) = self.models.model(file) else {
+            unreachable!()
+        };
+        model
+    }
+
+    /// Lends the text of a file that has a model.
+    fn text(&self, file: FileNo) -> &SourceText
+        requires { (d : Data) × HasModel self.now file d }
+        ensures text { result.now ≡ text_at self.now file }
+        ensures places { ArePlacesWithin result.now (model_at self.now file) }
+    {
+        match &self.contents[file.0 as usize] {
+            Some(kept) => &kept.text,
+            None => unreachable!(),
+        }
+    }
+
+    /// The line and the column of the first token of a member, its visibility word included.
+    pub fn member_place(&self, member: MemberNo) -> Place
+        requires { IsLiveMember self.now member }
+        ensures { result ≡ member_place self.now member }
+    {
+        let at = self.model(member.file).place_of_member(member.index);
+        self.text(member.file).place(at)
+    }
+
+    /// The line and the column of the first token of a reference.
+    pub fn reference_place(&self, reference: RefNo) -> Place
+        requires { IsLiveReference self.now reference }
+        ensures { result ≡ reference_place self.now reference }
+    {
+        let at = self
+            .model(reference.file)
+            .place_of_reference(reference.index);
+        self.text(reference.file).place(at)
+    }
+}
