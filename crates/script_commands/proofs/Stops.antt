@@ -240,7 +240,7 @@ pub put_refused : (w0 w1 w2 : Window) (left now later : Option (List ℕ)) (name
     → HasTaken w0 left later (IsNext w0 w2 later (Err stop))
 put_refused w0 w1 w2 left now later name count stop a b =
     then_taken w0 w1 left now later front _ _ (record { taken = a.taken; from = a.from; outcome = h.used }) b
-        (λ more place k. by stop (w1.pending ++ more) place k)
+    (λ more place k. by stop (w1.pending ++ more) place k)
   where
     h : HasHeading w0 w1 (heading.Put name count) (w0.pending ++ a.taken)
     h = a.outcome
@@ -269,7 +269,7 @@ put_refused w0 w1 w2 left now later name count stop a b =
         let line : line_of (put name text) ≡ h.line = put_line h.line name text count h.says.2 same in
         let whole : front ++ seen ≡ line_of (put name text) ++ 10 ∷ (text ++ o.next ∷ o.back) =
         apart seen ∙ (ap (λ bs. h.line ++ 10 ∷ bs) (used.stands ∙ ap (λ bs. text ++ bs) o.stands)
-            ∙ ap (λ l. l ++ 10 ∷ (text ++ o.next ∷ o.back)) (sym line)) in (
+        ∙ ap (λ l. l ++ 10 ∷ (text ++ o.next ∷ o.back)) (sym line)) in (
           front ++ text,
           record {
             name = name;

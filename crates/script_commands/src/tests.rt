@@ -17,37 +17,52 @@ fn source(
     Ok(MemorySource::new(bytes.to_vec(alloc)?, cuts, fails.to_vec(alloc)?))
 }
 
+/// Whether this is the command with this word, name and text.
+fn is_command(command: &Command, (word, name, text): (&[u8], &[u8], &[u8])) -> bool {
+    match command {
+        Command::Put {
+            name: put,
+            text: held,
+        } => { word == b"put".as_slice() && put.bytes() == name && held.bytes() == text }
+        Command::Drop { name: dropped } => word == b"drop".as_slice() && dropped.bytes() == name,
+        Command::Links { name: listed } => word == b"links".as_slice() && listed.bytes() == name,
+        Command::Check => word == b"check".as_slice(),
+        Command::End => word == b"end".as_slice(),
+    }
+}
+
 /// With ample memory no call answers `NoMemory`.
 #[test]
 fn each_command_is_read_in_pieces_of_any_size(rt: HostRuntime) -> Result<(), Fail> {
     let script =
         b"put a.sysml 10\npackage P;\nput b.kerml 0\n\ndrop a.sysml\nlinks b.kerml\ncheck\nend\nmore";
+    let commands = [
+        (
+            b"put".as_slice(),
+            b"a.sysml".as_slice(),
+            b"package P;".as_slice(),
+            26,
+        ),
+        (b"put", b"b.kerml", b"", 41),
+        (b"drop", b"a.sysml", b"", 54),
+        (b"links", b"b.kerml", b"", 68),
+        (b"check", b"", b"", 74),
+        (b"end", b"", b"", 78),
+    ];
     for size in SIZES {
         let mut input = source(rt.alloc(), script, size, &[])?;
         let mut reader = ScriptReader::new(rt.alloc())?;
-        let Ok(Command::Put { name, text }) = reader.next(&mut input) else {
-            panic!(rt; "put, in pieces of {size}")
-        };
-        assert!(rt; name.bytes() == b"a.sysml".as_slice());
-        assert!(rt; text.bytes() == b"package P;".as_slice());
-        assert!(rt; reader.used() == 26);
-        let Ok(Command::Put { name, text }) = reader.next(&mut input) else {
-            panic!(rt; "an empty text, in pieces of {size}")
-        };
-        assert!(rt; name.bytes() == b"b.kerml".as_slice() && text.bytes().is_empty());
-        let Ok(Command::Drop { name }) = reader.next(&mut input) else {
-            panic!(rt; "drop, in pieces of {size}")
-        };
-        assert!(rt; name.bytes() == b"a.sysml".as_slice());
-        let Ok(Command::Links { name }) = reader.next(&mut input) else {
-            panic!(rt; "links, in pieces of {size}")
-        };
-        assert!(rt; name.bytes() == b"b.kerml".as_slice());
-        assert!(rt; matches!(reader.next(&mut input), Ok(Command::Check)));
-        assert!(rt; matches!(reader.next(&mut input), Ok(Command::End)));
-        assert!(rt; reader.used() == 78);
+        for (word, name, text, used) in commands {
+            let Ok(command) = reader.next(&mut input) else {
+                panic!(rt; "a command, in pieces of {size}")
+            };
+            assert!(rt;
+                is_command(&command, (word, name, text)),
+                "in pieces of {size}"
+            );
+            assert!(rt; reader.used() == used, "in pieces of {size}");
+        }
         assert!(rt; reader.next(&mut input).err() == Some(ReadStop::CutShort));
-        assert!(rt; reader.taken() == 82);
     }
     Ok(())
 }

@@ -15,12 +15,12 @@ returns-in_default c = λ n le e. c.in_default.ensures.cases.0
 pub returns-in_default-parse : goal.returns-in_default-parse
 returns-in_default-parse c = λ n le e.
     let p : c.parse.result ≡ Ok n = parse-decimal 64 n c.in-Ok.text.now c.parse.result (omega arith) (omega arith)
-        (c.in-Ok.ensures.cases.0 ∙ e) c.parse.ensures.value.0 in cc
+    (c.in-Ok.ensures.cases.0 ∙ e) c.parse.ensures.value.0 in cc
 
 pub returns-then-count-ge-NUMBERS : goal.returns-then-count-ge-NUMBERS
 returns-then-count-ge-NUMBERS c = λ n le e.
     let p : c.parse.result ≡ Ok n = parse-decimal 64 n c.in-Ok.text.now c.parse.result (omega arith) (omega arith)
-        (c.in-Ok.ensures.cases.0 ∙ e) c.parse.ensures.value.0 in
+    (c.in-Ok.ensures.cases.0 ∙ e) c.parse.ensures.value.0 in
     let same : c.in-Ok-parse.count ≡ n = cc in
     elim c.then-count-ge-NUMBERS.branch [
       | then-count-ge-NUMBERS-via-then-count-ge-NUMBERS w ↦ omega arith

@@ -16,7 +16,7 @@ returns-clause-told g c =
       length-take-le n into c.in_ok-count.ensures.bound,
       ap (λ xs. take (end + n - at) (drop at xs)) (with_items_is c.make_room.new.self.bytes _ (search rules))
           ∙ piece_more items into _ at end n c.make_room.ensures.piece.order
-              (omega (arith, ap length same, c.make_room.ensures.piece.size, c.make_room.ensures.room))
+          (omega (arith, ap length same, c.make_room.ensures.piece.size, c.make_room.ensures.room))
           c.in_ok-count.ensures.bound
           ∙ ap (λ bs. bs ++ take n into) (ap (λ xs. take (end - at) (drop at xs)) same ∙ c.make_room.ensures.same),
       taken_more _ _ _ _ [] n into (taken_none _) c.in_ok-count.ensures.told,

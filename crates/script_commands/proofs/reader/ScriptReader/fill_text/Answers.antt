@@ -12,6 +12,6 @@ loop-stop-preserved g c = record {
 pub returns-in-Err-fill-clause-read : goal.returns-in-Err-fill-clause-read
 returns-in-Err-fill-clause-read g c =
     let none : c.move_into.new.self.pending ≡ [] = elim
-        c.in-Ok.ensures.4 [ inl whole ↦ absurd (c.if-len-count.false (c.len.ensures ∙ (c.move_into.new.text.ok.0 ∙ whole))) | inr none ↦ none ] in
+    c.in-Ok.ensures.4 [ inl whole ↦ absurd (c.if-len-count.false (c.len.ensures ∙ (c.move_into.new.text.ok.0 ∙ whole))) | inr none ↦ none ] in
     text_stopped _ _ _ _ _ _ _ _ c.in-Err-fill.stop
-        (text_moved _ _ _ _ _ _ _ _ _ c.loop-stop.invariant.read c.in-Ok.ensures) c.in-Ok.ensures.2 none c.in-Err-fill.ensures.read
+    (text_moved _ _ _ _ _ _ _ _ _ c.loop-stop.invariant.read c.in-Ok.ensures) c.in-Ok.ensures.2 none c.in-Err-fill.ensures.read

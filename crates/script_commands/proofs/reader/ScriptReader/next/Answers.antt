@@ -22,5 +22,5 @@ pub returns-in-Err-CutShort-clause-read : goal.returns-in-Err-CutShort-clause-re
 returns-in-Err-CutShort-clause-read g c = bare_read _ _ _ _ _ c.read_bare_end.result
     (subst (λ (s : ReadStop). HasTaken c.args.self.now (g.S.Source.left c.args.input.now) (g.S.Source.left c.read_line.new.input)
     (IsHeaded c.args.self.now c.read_line.new.self (g.S.Source.left c.read_line.new.input)
-        (Err s))) c.in-Err-CutShort.field-0-is c.in-Err-CutShort.ensures.read)
+    (Err s))) c.in-Err-CutShort.field-0-is c.in-Err-CutShort.ensures.read)
     c.read_bare_end.ensures
