@@ -1,5 +1,5 @@
 -- What a project keeps of its files, and the files that it has.
-use Rattle.std.specs.Prelude.{◌≡◌, ℕ, suc, ◌≤◌, List, [], ◌∷◌, length, All, Option, Some, None}
+use Rattle.std.specs.Prelude.{◌≡◌, ℕ, zero, suc, ◌≤◌, List, [], ◌∷◌, length, All, Option, Some, None}
 use Rattle.element_store.specs.declared.numbers.FileNo.{FileNo}
 use Rattle.element_store.specs.declared.models.StoredFile.{StoredFile}
 use Rattle.element_store.specs.Model.{Data, bare_model}
@@ -31,6 +31,12 @@ files_of [] ks = []
 files_of (x ∷ xs) [] = []
 files_of (x ∷ xs) (k ∷ ks) = file_of x k ∷ files_of xs ks
 
+-- the files with this content at a place
+abbrev pub with_content_at : List ProjectFile → ℕ → Option Content → List ProjectFile
+with_content_at [] i c = []
+with_content_at (f ∷ fs) zero c = record f { content = c } ∷ fs
+with_content_at (f ∷ fs) (suc i) c = f ∷ with_content_at fs i c
+
 -- the places of a model stand in its text, or at its end
 pub record ArePlacesWithin (text : List ℕ) (d : Data) : Type 0 where
   pub members : All (λ place. place ≤ length text) d.member_places
@@ -48,6 +54,13 @@ pub record IsKeptWith (number : FileNo) (x : StoredFile) (k : Kept) : Type 0 whe
   pub fault : IsByFault number x.name k.fault model
   pub spellable : AreNamesSpellable model
   pub places : ArePlacesWithin k.text model
+
+-- a text with its model may be kept of a file with this number and name
+pub record MayKeep (number : FileNo) (name : List ℕ) (k : Kept) (d : Data) : Type 0 where
+  pub own : d.file ≡ number
+  pub fault : IsByFault number name k.fault d
+  pub spellable : AreNamesSpellable d
+  pub places : ArePlacesWithin k.text d
 
 -- a file has a model exactly where its text is kept
 abbrev pub IsKept : FileNo → StoredFile → Option Kept → Type 0

@@ -1,11 +1,11 @@
-ghost use Rattle.std.specs.Prelude.{◌≡◌, ◌<◌, ◌++◌, ◌∷◌, [], IfOk, OnErr, OnOk, None, length, map};
+ghost use Rattle.std.specs.Prelude.{◌≡◌, ◌<◌, ◌++◌, ◌∷◌, [], IfOk, OnErr, OnOk, None, Some, length, map};
 ghost use Rattle.linker_base.specs.Members.{IsMember};
 ghost use Rattle.element_store.specs.Model.{Data};
 ghost use Rattle.book_model.specs.Files.{model_at, name_at, stored, text_at};
 ghost use Rattle.book_model.specs.Live.{HasModel, IsLiveMember, IsLiveReference};
 ghost use Rattle.book_model.specs.Queries.{member_place, reference_place};
 ghost use Rattle.written_names.specs.Spellable.{AreNamesSpellable};
-ghost use Rattle.project_files.specs.Kept.{ArePlacesWithin};
+ghost use Rattle.project_files.specs.Kept.{ArePlacesWithin, MayKeep, content_of, with_content_at};
 
 use book_model::Place;
 use element_store::{FileModel, FileNo, MemberNo, Models, RefNo, Text};
@@ -51,6 +51,43 @@ impl ProjectFiles {
             models: Models::new(alloc),
             contents: Vec::new(alloc),
         }
+    }
+
+    /// Adds a file without a text and gives its number, which is the count of the files before it. After
+    /// `NoMemory` the files are as they were.
+    pub fn add(&mut self, name: Text, library: bool) -> Result<FileNo, NoMemory>
+        requires fresh { IsMember (map (λ f. f.name) self.old) name → ⊥ }
+        requires room { length self.old < 4294967295 }
+        ensures number { IfOk result (λ n. n.0 ≡ length self.old) }
+        ensures added { OnOk result (self.new ≡ self.old
+            ++ record { name = name; library = library; content = None } ∷ []) }
+        ensures err { OnErr result (self.new ≡ self.old) }
+    {
+        // The room for what is kept is taken first, so that want of memory changes nothing.
+        self.contents.reserve(1)?;
+        let number = self.models.add(name, library)?;
+        self.contents.push(None)?;
+        Ok(number)
+    }
+
+    /// Keeps a text under a file, with its model: that of the text, or where the text has a fault that of
+    /// an empty file.
+    pub fn put(&mut self, file: FileNo, kept: Kept, model: FileModel)
+        requires stands { file.0 < length self.old }
+        requires may { MayKeep file (name_at self.old file) kept model }
+        ensures { self.new ≡ with_content_at self.old file.0 (content_of (Some model) (Some kept)) }
+    {
+        self.models.set(file, Some(model));
+        self.contents[file.0 as usize] = Some(kept);
+    }
+
+    /// Lets the text of a file go, and its model with it. The file stays.
+    pub fn clear(&mut self, file: FileNo)
+        requires stands { file.0 < length self.old }
+        ensures { self.new ≡ with_content_at self.old file.0 None }
+    {
+        self.models.set(file, None);
+        self.contents[file.0 as usize] = None;
     }
 
     /// Lends the models, which links see.

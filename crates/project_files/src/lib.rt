@@ -5,6 +5,8 @@
 
 mod files;
 mod outcomes;
+#[cfg(test)]
+mod tests;
 
 pub use files::{Kept, ProjectFiles};
 pub use outcomes::{write_outcome, write_place, write_row};
