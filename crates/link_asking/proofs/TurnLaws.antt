@@ -164,6 +164,12 @@ pick_stands v hs (picked.One e) old new hits a =
     let there = chosen_one v.models.now hs e (some_same _ _ told.0) in
     subst (StandsIn (files_of v)) there.2 (hits there.0 there.1).1
 
+-- what the first segment found stands
+pub first_stands : (files : List StoredFile) (p : Picked) → PickStands files p → StandsOn files (Some (first_turn p))
+first_stands files picked.Nothing h = tt
+first_stands files (picked.One e) h = h
+first_stands files (picked.Several first second) h = tt
+
 -- where it ended nothing goes on
 pub ended_stands : (files : List StoredFile) (o : Option Outcome) → StandsOn files (ended_turn o)
 ended_stands files None = tt

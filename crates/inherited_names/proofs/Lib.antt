@@ -1,0 +1,13 @@
+pub mod Tests
+pub mod Asides
+pub mod Noting
+pub mod SearchParts
+pub mod OpenLists
+pub mod CandidateLaws
+pub mod FactLaws
+pub mod KnownLaws
+pub mod RemovalLaws
+pub mod ElsewhereLaws
+pub mod StageLaws
+pub mod StandLaws
+pub mod OpenExpands

@@ -1,0 +1,11 @@
+use Rattle.std.proofs.Common.{refl}
+use Rattle.link_walk.proofs.GainLaws.{gained_next}
+use Rattle.link_walk.specs.Calls.{read_by}
+use Rattle.inherited_names.specs.Stages.{told_of, open_effective}
+use Rattle.inherited_names.proofs.open_members.take_open_redefining.Goals as goal
+
+pub loop-index-preserved : goal.loop-index-preserved
+loop-index-preserved c =
+    gained_next (read_by c.args.view.now) (told_of c.args.model.now (open_effective c.args.name.now c.args.at.file)) c.redefining-members.result.now
+    c.loop-index.index-index _ _ c.args.gains.now c.loop-index.gains c.take_open_effective.new.gains c.loop-index-test.true refl c.loop-index.invariant
+    c.in_ok-take_open_effective.ensures
