@@ -144,11 +144,7 @@ fn take_base(
 }
 
 /// The types that are reached by generals.
-pub fn reached(
-    alloc: Global,
-    sight: &Sight,
-    of: ElementNo,
-) -> Result<Trail<ElementNo>, NoMemory>
+pub fn reached(alloc: Global, sight: &Sight, of: ElementNo) -> Result<Trail<ElementNo>, NoMemory>
     requires clear { IsClear sight.now }
     requires stands { StandsIn sight.now.view.now.models.now of }
     ensures { IfOk result (λ trail. IsAsked trail

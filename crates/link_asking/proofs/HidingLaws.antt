@@ -1,6 +1,29 @@
 -- What isn't visible: the search ends hidden or absent.
-use Rattle.std.proofs.Common.{◌≡◌, ◌∙◌, ℕ, ◌<◌, Bool, true, false,
-    cond, not, List, [], ◌∷◌, ◌++◌, map, length, refl, sym, ap, subst, inl, inr, append-nil, append_assoc}
+use Rattle.std.proofs.Common.{
+  ◌≡◌,
+  ◌∙◌,
+  ℕ,
+  ◌<◌,
+  Bool,
+  true,
+  false,
+  cond,
+  not,
+  List,
+  [],
+  ◌∷◌,
+  ◌++◌,
+  map,
+  length,
+  refl,
+  sym,
+  ap,
+  subst,
+  inl,
+  inr,
+  append-nil,
+  append_assoc,
+}
 use Rattle.std.specs.Prelude.{◌⊎◌, slice_get, Option, None, Some}
 use Rattle.std.specs.Option.{option_map_or, option_map}
 use Rattle.linker_base.specs.Members.{IsMember, SameMembers}

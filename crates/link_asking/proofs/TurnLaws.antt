@@ -1,6 +1,29 @@
 -- One segment after another.
-use Rattle.std.proofs.Common.{◌≡◌, ◌∙◌, ℕ, ◌<◌, Bool, true, false,
-    cond, not, List, [], ◌∷◌, ◌++◌, map, length, refl, sym, ap, subst, inl, inr, append-nil, append_assoc}
+use Rattle.std.proofs.Common.{
+  ◌≡◌,
+  ◌∙◌,
+  ℕ,
+  ◌<◌,
+  Bool,
+  true,
+  false,
+  cond,
+  not,
+  List,
+  [],
+  ◌∷◌,
+  ◌++◌,
+  map,
+  length,
+  refl,
+  sym,
+  ap,
+  subst,
+  inl,
+  inr,
+  append-nil,
+  append_assoc,
+}
 use Rattle.std.specs.Prelude.{◌⊎◌, zero, suc, slice_get, Option, None, Some}
 use Rattle.std.specs.Option.{option_map}
 use Rattle.linker_base.specs.Members.{IsMember, SameMembers}
@@ -80,7 +103,7 @@ module _ (v : View) where
   -- the first segment
   pub first_follows : (p : Picked) (old : Noted) → Turned
       (λ more. met (later (library_of (files_of v)) 2 more) (done (Ended (Absent 1))) 1 (picked_of p)) (later (library_of (files_of v)) 2) (read_by v)
-          (Some (first_turn p)) old old
+      (Some (first_turn p)) old old
   first_follows picked.Nothing old = λ more. answered_done (read_by v) (Ended (Absent 1)) old
   first_follows (picked.One e) old = λ more y end a. met_one (read_by v) (later (library_of (files_of v)) 2 more) (done (Ended (Absent 1))) 1 e y old end a
   first_follows (picked.Several a b) old = λ more. answered_done (read_by v) (Ended (Ambiguous 1 a b)) old
@@ -93,7 +116,7 @@ module _ (v : View) where
       → new ≡ noted g.waits g.looks old → Steps v n x at None old new
   steps_wait n x at g old new a some is = λ more.
       answered_stop (read_by v) (look_in x at >>= pick)
-          (met (later (library_of (files_of v)) (suc n) more) (nothing_visible (library_of (files_of v)) n x at) n) old new
+      (met (later (library_of (files_of v)) (suc n) more) (nothing_visible (library_of (files_of v)) n x at) n) old new
       (answered_wait (read_by v) g (look_in x at) pick old new a some is)
 
   pub steps_on : (n : ℕ) (x : List ℕ) (at : ElementNo) (g : LinkTrail Hit) (p : Choice) (t : Option Turn) (old mid chosen new : Noted) → AreFiles (files_of v)
@@ -101,7 +124,7 @@ module _ (v : View) where
       → Answered (pick g.found (read_by v)) (Some p) mid chosen → Follows v n x at p t chosen new → Steps v n x at t old new
   steps_on n x at g p t old mid chosen new are hits a none is picks f =
       turned_after (read_by v) (look_in x at >>= pick)
-          (λ more. met (later (library_of (files_of v)) (suc n) more) (nothing_visible (library_of (files_of v)) n x at) n)
+      (λ more. met (later (library_of (files_of v)) (suc n) more) (nothing_visible (library_of (files_of v)) n x at) n)
       (later (library_of (files_of v)) (suc n)) p t old chosen new
       (answered_on (read_by v) g (look_in x at) pick (Some p) old mid chosen a none is
       (λ ys s. pick_same v.models.now v.table.now are g.found ys s hits) picks) f

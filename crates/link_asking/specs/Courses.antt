@@ -81,7 +81,7 @@ Leaves lib w number names at found whole start here = (y : Option Course) (end :
 abbrev pub Follows : View → ℕ → List ℕ → ElementNo → Choice → Option Turn → Noted → Noted → Type 0
 Follows v number x at p turn old new = Turned
     (λ more. met (later (library_of (files_of v)) (suc number) more)
-        (nothing_visible (library_of (files_of v)) number x at) number p)
+    (nothing_visible (library_of (files_of v)) number x at) number p)
     (later (library_of (files_of v)) (suc number)) (read_by v) turn old new
 
 -- the segment of that number, whose name is x, is decided

@@ -229,7 +229,16 @@ fn try_import<T: Lookups>(
         return Ok(true);
     }
     let decided = try_lexical(
-        alloc, lookups, view, roots, model, number.file, of.owner, library, name, gains,
+        alloc,
+        lookups,
+        view,
+        roots,
+        model,
+        number.file,
+        of.owner,
+        library,
+        name,
+        gains,
     )?;
     Ok(decided)
 }

@@ -164,9 +164,14 @@ module _ (files : List StoredFile) (are : AreFiles files) (ranks : List ℕ) (of
       by (inr n) = inr (inr (same, omega (arith, le, n)))
 
   up_to : (p q : Place) → IsPlace p → IsPlace q → NoLater p q → UpTo p.key q.key
-  up_to p q a b (inl lt) = inr (inl (a.file, b.file, a.stands, b.stands,
-      less_before files p.key.0.file.0 q.key.0.file.0 a.file b.file are.names a.stands b.stands
-      (let x = a.rank in let y = b.rank in omega (arith, lt, x, y))))
+  up_to p q a b (inl lt) = inr (inl (
+    a.file,
+    b.file,
+    a.stands,
+    b.stands,
+    less_before files p.key.0.file.0 q.key.0.file.0 a.file b.file are.names a.stands b.stands
+        (let x = a.rank in let y = b.rank in omega (arith, lt, x, y)),
+  ))
   up_to p q a b (inr (e, le)) =
       let same : p.key.0.file.0 ≡ q.key.0.file.0 =
       rank_once files p.rank p.key.0.file.0 q.key.0.file.0 are.names (a.file, a.stands, sym a.rank) (b.file, b.stands, sym b.rank ∙ sym e) in

@@ -18,7 +18,7 @@ returns c =
     let files = files_of c.args.view.now in
     let is = c.as_slice-members.ensures ∙ c.in_ok-kept.ensures in
     hiding_answered files c.args.view.now.table.now c.args.number c.args.hits.now c.ending.result c.args.notes.now c.note_files.new.notes
-        c.note_files-2.new.notes
+    c.note_files-2.new.notes
     (c.ending.ensures files ∙ ap (hidden_by c.args.number) (c.least-first.ensures.least files c.files.ensures.kept c.requires.ranks
     ∙ ap (λ hs. least_of (map (ranked files) hs)) is))
     c.in_ok-note_files.ensures (c.in_ok-note_files-2.ensures ∙ ap (λ hs. noted [] (files_looked hs) c.note_files.new.notes) is)

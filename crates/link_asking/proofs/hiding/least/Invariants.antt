@@ -13,7 +13,7 @@ use Rattle.link_asking.proofs.hiding.least.Given as goal
 abbrev pub invariant-loop-at : goal.invariant-loop-at
 invariant-loop-at l = (l.at ≤ length l.hits)
     × ((files : List StoredFile) → AreFiles files → AreRanksOf files l.ranks
-        → option_map (ranked files) l.least ≡ least_of (map (ranked files) (drop l.at l.hits)))
+    → option_map (ranked files) l.least ≡ least_of (map (ranked files) (drop l.at l.hits)))
     × IfSome l.least (IsMember l.hits)
 
 abbrev pub decreases-loop-at : goal.decreases-loop-at

@@ -25,7 +25,7 @@ returns-then-second-clause-tried g c =
     let x = c.args.name.now in
     let n = c.args.at in
     four_second w (declared x n) (effective x n) (inherited_tier lib x n) (imports_before lib c.args.import x n) c.args.gains.now c.try_tier.new.gains
-        c.try_tier-2.new.gains
+    c.try_tier-2.new.gains
     c.in_ok-first.first (c.in_ok-first.ensures.tried w (declared x n) c.in_ok-declared.ensures.asked) c.if-first.false
     c.in_ok-second.second (c.in_ok-second.ensures.tried w (effective x n) c.in_ok-effective.ensures.asked) c.if-second.true
 
@@ -39,7 +39,7 @@ returns-then-third-clause-tried g c =
     let x = c.args.name.now in
     let n = c.args.at in
     four_third w (declared x n) (effective x n) (inherited_tier lib x n) (imports_before lib c.args.import x n) c.args.gains.now c.try_tier.new.gains
-        c.try_tier-2.new.gains
+    c.try_tier-2.new.gains
     c.in_ok-first.first (c.in_ok-first.ensures.tried w (declared x n) c.in_ok-declared.ensures.asked) c.if-first.false
     c.try_tier-3.new.gains c.in_ok-second.second (c.in_ok-second.ensures.tried w (effective x n) c.in_ok-effective.ensures.asked) c.if-second.false
     c.in_ok-third.third (c.in_ok-third.ensures.tried w (inherited_tier lib x n) c.in_ok-inherited.ensures.asked) c.if-third.true
@@ -54,7 +54,7 @@ returns-clause-tried g c =
     let x = c.args.name.now in
     let n = c.args.at in
     four_last w (declared x n) (effective x n) (inherited_tier lib x n) (imports_before lib c.args.import x n) c.args.gains.now c.try_tier.new.gains
-        c.try_tier-2.new.gains
+    c.try_tier-2.new.gains
     c.in_ok-first.first (c.in_ok-first.ensures.tried w (declared x n) c.in_ok-declared.ensures.asked) c.if-first.false
     c.try_tier-3.new.gains c.in_ok-second.second (c.in_ok-second.ensures.tried w (effective x n) c.in_ok-effective.ensures.asked) c.if-second.false
     c.try_tier-4.new.gains c.in_ok-third.third c.in_ok-fourth.fourth (c.in_ok-third.ensures.tried w

@@ -25,7 +25,7 @@ returns-then-first-clause-tried g c =
     (redefined_end d c.elements.ensures.model c.args.file c.in-Some.index c.element-of.result.now c.element-of.ensures.lent w lib c.args.library x own mid
     c.is_type-is_type.result c.is_type-is_type.ensures
     (subst (λ b. Tried w (owner_tiers lib c.is_type-is_type.result x (node_at c.args.file c.in-Some.index)) b own mid) c.if-first.true
-        c.in_ok-first.ensures.tried))
+    c.in_ok-first.ensures.tried))
 
 pub returns-clause-tried : goal.returns-clause-tried
 returns-clause-tried g c =
@@ -40,5 +40,5 @@ returns-clause-tried g c =
     (redefined_on d c.elements.ensures.model c.args.file c.in-Some.index c.element-of.result.now c.element-of.ensures.lent w lib c.args.library x own mid
     c.is_type-is_type.result c.in_ok-decided.decided end c.is_type-is_type.ensures
     (subst (λ b. Tried w (owner_tiers lib c.is_type-is_type.result x (node_at c.args.file c.in-Some.index)) b own mid) c.if-first.false
-        c.in_ok-first.ensures.tried)
+    c.in_ok-first.ensures.tried)
     c.in_ok-decided.ensures.tried)
