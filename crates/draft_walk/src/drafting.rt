@@ -19,6 +19,7 @@ use text_model::FileFault;
 use token_core::terminal_of;
 
 /// Tells one event more.
+#[inline(always)]
 fn hear(teller: &mut Teller, source: &Source, event: Event) -> Result<(), ParseFault>
     requires { AreTokensOf source.now.text.now teller.old.now.rest }
     ensures ok { OnOk result (teller.new ≡ told (tables source.now.language) source.now.text.now

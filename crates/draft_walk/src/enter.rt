@@ -50,6 +50,7 @@ impl<'a> Walker<'a> {
     }
 
     /// An element begins in the one that is open, where nothing is read.
+    #[inline(never)]
     pub fn enter_element(&mut self, kind: Kind) -> Result<(), NoMemory>
         requires { self.old.reading ≡ fresh }
         ensures { OnOk result (self.new ≡ entered (Action.Element kind) self.old) }
@@ -69,6 +70,7 @@ impl<'a> Walker<'a> {
     }
 
     /// The name read so far is the declared name, and no reference.
+    #[inline(never)]
     pub fn enter_named_end(&mut self) -> Result<(), NoMemory>
         ensures { OnOk result (self.new ≡ entered Action.NamedEnd self.old) }
     {
@@ -91,6 +93,7 @@ impl<'a> Walker<'a> {
     }
 
     /// The operator that waits is joined to the operands before it.
+    #[inline(never)]
     pub fn enter_tail(&mut self) -> Result<(), NoMemory>
         ensures { OnOk result (self.new ≡ entered Action.Tail self.old) }
     {

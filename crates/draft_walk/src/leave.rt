@@ -102,6 +102,7 @@ impl<'a> Walker<'a> {
     }
 
     /// The element that is open ends.
+    #[inline(never)]
     pub fn leave_element(&mut self, saved: Saved) -> Result<(), NoMemory>
         ensures { OnOk result (self.new
             ≡ left (action.Element kind.Root) (frame_of saved) self.old) }
@@ -228,6 +229,7 @@ impl<'a> Walker<'a> {
     }
 
     /// What was read for something of its own ends.
+    #[inline(never)]
     pub fn leave_taking(&mut self, sort: Taking, saved: Saved) -> Result<(), NoMemory>
         ensures { OnOk result (self.new ≡ left (action.Take sort) (frame_of saved) self.old) }
     {
@@ -241,6 +243,7 @@ impl<'a> Walker<'a> {
     }
 
     /// An expression of its own ends: a sign before its operands is applied, and the operator around it waits on.
+    #[inline(never)]
     pub fn leave_level(&mut self, around: Option<Waiting>) -> Result<(), NoMemory>
         ensures { OnOk result (self.new ≡ left action.Level (level_frame around) self.old) }
     {

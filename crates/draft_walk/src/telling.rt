@@ -1,9 +1,9 @@
-ghost use Rattle.std.specs.Prelude.{◌≡◌, IfOk, OnOk};
+ghost use Rattle.std.specs.Prelude.{◌≡◌, ◌∷◌, IfOk, OnOk};
 ghost use Rattle.token_core.specs.Reading.{AreTokensOf};
 ghost use Rattle.text_model.specs.Tables.{tables};
-ghost use Rattle.text_model.specs.Walk.{taken};
+ghost use Rattle.text_model.specs.Walk.{fresh, taken};
 ghost use Rattle.draft_walk.specs.Drafted.{HasDrafts};
-ghost use Rattle.draft_walk.specs.Telling.{begun, closed, opened, told, top};
+ghost use Rattle.draft_walk.specs.Telling.{begun, closed, opened, saved_of, told, top};
 
 use crate::walker::{Saved, Walker};
 use element_store::Language;
@@ -73,19 +73,32 @@ impl<'a> Teller<'a> {
         })
     }
 
+    /// What the end of an element or a list needs is kept, and nothing is read. It stands apart, since a function clears
+    /// the room of its locals first, and most productions need none of this.
+    #[inline(never)]
+    fn keep(&mut self) -> Result<(), NoMemory>
+        ensures { OnOk result (self.new ≡ record self.old {
+          frames = saved_of self.old.now ∷ self.old.frames;
+          now = record self.old.now { reading = fresh };
+        }) }
+    {
+        let saved = self.walker.save();
+        self.frames.push(saved)?;
+        Ok(())
+    }
+
     /// A production with this action begins.
+    #[inline(always)]
     fn open(&mut self, action: Action) -> Result<(), NoMemory>
         ensures { OnOk result (self.new ≡ opened action self.old) }
     {
         match action {
             Action::Element(kind) => {
-                let saved = self.walker.save();
-                self.frames.push(saved)?;
+                self.keep()?;
                 self.walker.enter_element(kind)?;
             }
             Action::Take(_) => {
-                let saved = self.walker.save();
-                self.frames.push(saved)?;
+                self.keep()?;
                 self.walker.enter_taking();
             }
             Action::Level => {
@@ -101,6 +114,7 @@ impl<'a> Teller<'a> {
     }
 
     /// The production that was opened last ends.
+    #[inline(always)]
     fn close(&mut self) -> Result<(), NoMemory>
         ensures { OnOk result (self.new ≡ closed self.old.actions self.old) }
     {
@@ -126,6 +140,7 @@ impl<'a> Teller<'a> {
     }
 
     /// The next token is taken, below the production that was opened last.
+    #[inline(always)]
     fn shift(&mut self, source: &Source) -> Result<(), NoMemory>
         requires { AreTokensOf source.now.text.now self.old.now.rest }
         ensures { OnOk result (self.new
@@ -139,6 +154,7 @@ impl<'a> Teller<'a> {
     }
 
     /// One event more.
+    #[inline(always)]
     pub fn tell(&mut self, source: &Source, event: Event) -> Result<(), NoMemory>
         requires { AreTokensOf source.now.text.now self.old.now.rest }
         ensures { OnOk result (self.new
@@ -169,6 +185,7 @@ impl<'a> Teller<'a> {
 }
 
 /// The next token is taken, below a production with this action.
+#[inline(never)]
 fn take(walker: &mut Walker, source: &Source, action: Action) -> Result<(), NoMemory>
     requires { AreTokensOf source.now.text.now walker.old.rest }
     ensures { OnOk result (walker.new

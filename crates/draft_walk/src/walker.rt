@@ -117,14 +117,16 @@ impl<'a> Walker<'a> {
     pub fn new(alloc: Global, tokens: &'a [Token]) -> Result<Walker<'a>, NoMemory>
         ensures { IfOk result (λ walker. walker ≡ start tokens.now) }
     {
-        let mut elements = Vec::new(alloc);
+        // Most texts have an element for five tokens or more, and so the lists never grow.
+        let room = tokens.len() / 5;
+        let mut elements = Vec::with_capacity(alloc, room)?;
         elements.push(draft(alloc, Kind::Root, None))?;
         Ok(Walker {
             alloc,
             all: tokens,
             at: 0,
             elements,
-            members: Vec::new(alloc),
+            members: Vec::with_capacity(alloc, room)?,
             imports: Row::new(alloc),
             current: 0,
             waiting: None,
@@ -181,6 +183,7 @@ impl<'a> Walker<'a> {
     }
 
     /// What is kept of the element that is open, until one or a list in it ends. Nothing is read then.
+    #[inline(never)]
     pub fn save(&mut self) -> Saved
         ensures saved { result ≡ saved_of self.old }
         ensures fresh { self.new ≡ record self.old { reading = fresh } }
