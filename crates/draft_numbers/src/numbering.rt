@@ -94,18 +94,19 @@ fn copied(alloc: Global, name: &Option<Name>) -> Result<Option<Name>, NoMemory>
 }
 
 impl Lists {
-    fn new(alloc: Global) -> Lists
-        ensures { result ≡ no_lists }
+    /// Lists of nothing, with room for so many elements.
+    fn new(alloc: Global, count: usize) -> Result<Lists, NoMemory>
+        ensures { IfOk result (λ lists. lists ≡ no_lists) }
     {
-        Lists {
+        Ok(Lists {
             alloc,
-            elements: Vec::new(alloc),
-            items: Vec::new(alloc),
-            bases: Vec::new(alloc),
-            values: Vec::new(alloc),
-            results: Vec::new(alloc),
-            numbered: References::new(alloc),
-        }
+            elements: Vec::with_capacity(alloc, count)?,
+            items: Vec::with_capacity(alloc, count)?,
+            bases: Vec::with_capacity(alloc, count)?,
+            values: Vec::with_capacity(alloc, count)?,
+            results: Vec::with_capacity(alloc, count)?,
+            numbered: References::new(alloc, count)?,
+        })
     }
 
     /// The references of a draft come next. The rest of what the lists take of it.
@@ -310,7 +311,7 @@ fn member_places(alloc: Global, members: &[DraftMember]) -> Result<Vec<u32>, NoM
 fn lists_of(alloc: Global, drafts: Vec<Draft>) -> Result<Lists, NoMemory>
     ensures { IfOk result (λ lists. lists ≡ with_drafts no_lists drafts.items) }
 {
-    let mut lists = Lists::new(alloc);
+    let mut lists = Lists::new(alloc, drafts.len())?;
     lists.add_all(drafts)?;
     Ok(lists)
 }

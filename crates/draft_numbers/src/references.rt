@@ -46,14 +46,14 @@ impl Model for References {
 }
 
 impl References {
-    /// No reference.
-    pub fn new(alloc: Global) -> References
-        ensures { result ≡ no_refs }
+    /// No reference, with room for so many.
+    pub fn new(alloc: Global, count: usize) -> Result<References, NoMemory>
+        ensures { IfOk result (λ refs. refs ≡ no_refs) }
     {
-        References {
-            items: Vec::new(alloc),
-            places: Vec::new(alloc),
-        }
+        Ok(References {
+            items: Vec::with_capacity(alloc, count)?,
+            places: Vec::with_capacity(alloc, count)?,
+        })
     }
 
     /// The number of the next reference.
