@@ -81,6 +81,7 @@ pub fn build(
         language,
     };
     let drafts = draft(alloc, &source)?;
+    drop(tokens);
     let Ok(found) = find(alloc, Heading { file, language }, drafts) else {
         return Err(FileFault::NoMemory);
     };
