@@ -13,3 +13,6 @@ mod walker;
 pub use drafting::draft;
 pub use telling::{Drafts, Source};
 pub use walker::number_of;
+
+#[cfg(test)]
+mod tests;
