@@ -5,3 +5,6 @@ mod numbering;
 mod references;
 
 pub use numbering::{Heading, number};
+
+#[cfg(test)]
+mod tests;
