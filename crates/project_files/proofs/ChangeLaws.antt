@@ -55,6 +55,7 @@ put_kept xs ks files kept view f k d lt may =
       fault = subst (λ bytes. IsByFault f bytes k.fault d) name may.fault;
       spellable = may.spellable;
       places = may.places;
+      within = may.within;
     } in
     subst (λ j. IsKept (record { 0 = j }) (record x { model = Some d }) (Some k)) number own)
 

@@ -18,7 +18,7 @@ use Rattle.book_model.specs.Readings.{language_of, model_by}
 use Rattle.book_model.specs.Files.{ProjectFile, model_at, name_at, stored, stored_file, stored_from, text_at, text_of}
 use Rattle.book_model.specs.Queries.{text_of_reference, written_in}
 use Rattle.project_files.specs.declared.files.Kept.{Kept}
-use Rattle.project_files.specs.Kept.{reading_of, file_of, files_of, IsByFault, IsKept, IsKeptWith, AreKeptFrom, AreKept}
+use Rattle.project_files.specs.Kept.{content_at, own_kept, StandsWithin, reading_of, file_of, files_of, content_of, IsByFault, IsKept, IsKeptWith, AreKeptFrom, AreKept}
 
 -- the model of a reading is the one that is kept
 read_model : (number : FileNo) (name : List ℕ) (fault : Option FileFault) (d : Data) → IsByFault number name fault d
@@ -188,3 +188,61 @@ pub behind_last : {E : Type 0} (r : Result (Unit {0}) E) (old whole part middle 
     → OnOk r (new ≡ middle ++ part) → OnOk r (new ≡ old ++ (whole ++ part))
 behind_last r old whole part middle new first second =
     subst (λ bytes. OnOk r (new ≡ bytes)) (ap (λ bytes. bytes ++ part) first ∙ append_assoc old whole part) second
+
+-- the content of a file, by what is kept of it
+abbrev ContentBy : ℕ → List StoredFile → Option ProjectFile → ℕ → Option (Option Kept) → Type 0
+ContentBy n xs file i (Some (Some k)) = (x : StoredFile) × (slice_get xs i ≡ Some x) × IsKeptWith (record { 0 = n + i }) x k
+    × (option_and_then (λ (f : ProjectFile). f.content) file ≡ content_of x.model (Some k))
+ContentBy n xs file i other = option_and_then (λ (f : ProjectFile). f.content) file ≡ None
+
+-- what is kept says which content a file has
+content_by : (n : ℕ) (xs : List StoredFile) (ks : List (Option Kept)) → AreKeptFrom n xs ks → (i : ℕ)
+    → ContentBy n xs (slice_get (files_of xs ks) i) i (slice_get ks i)
+content_by n [] [] kept i = refl
+content_by n [] (k ∷ ks) kept i = absurd kept
+content_by n (x ∷ xs) [] kept i = absurd kept
+content_by n (x ∷ xs) (None ∷ ks) kept zero = refl
+content_by n (x ∷ xs) (Some k ∷ ks) kept zero =
+    let number : n ≡ n + 0 = omega arith in
+    (x, refl, subst (λ m. IsKeptWith (record { 0 = m }) x k) number kept.0, refl)
+content_by n (x ∷ xs) (k ∷ ks) kept (suc i) = later (slice_get ks i) (content_by (suc n) xs ks kept.1 i) where
+  later : (o : Option (Option Kept)) → ContentBy (suc n) xs (slice_get (files_of xs ks) i) i o → ContentBy n (x ∷ xs) (slice_get (files_of xs ks) i) (suc i) o
+  later None h = h
+  later (Some None) h = h
+  later (Some (Some own)) (y, at, with_it, is) =
+      let number : suc n + i ≡ n + suc i = omega arith in
+      (y, at, subst (λ m. IsKeptWith (record { 0 = m }) y own) number with_it, is)
+
+-- a text that is kept, with its file and its content
+pub record HasText (xs : List StoredFile) (files : List ProjectFile) (f : FileNo) (k : Kept) : Type 0 where
+  pub model : Data
+  pub has : model_of xs f.0 ≡ Some model
+  pub with_it : StandsWithin k
+  pub content : content_at files f ≡ Some (record { text = k.text; reading = reading_of k.fault (Some model) })
+
+-- the text that is kept at a place is that of the file there
+pub has_text : (xs : List StoredFile) (ks : List (Option Kept)) (files : List ProjectFile) → AreKept xs ks → files_of xs ks ≡ files → (f : FileNo) (k : Kept)
+    → own_kept ks f.0 ≡ Some k → HasText xs files f k
+has_text xs ks files kept view f k at =
+    let by : ContentBy 0 xs (slice_get (files_of xs ks) f.0) f.0 (Some (Some k)) =
+    subst (ContentBy 0 xs (slice_get (files_of xs ks) f.0) f.0) (both (slice_get ks f.0) at) (content_by 0 xs ks kept f.0) in
+    record {
+      model = by.2.model;
+      has = ap (option_and_then (λ (x : StoredFile). x.model)) by.1 ∙ by.2.has;
+      with_it = by.2.within;
+      content = ap (λ all. content_at all f) (sym view) ∙ by.3 ∙ ap (λ m. content_of m (Some k)) by.2.has;
+    }
+  where
+    both : (o : Option (Option Kept)) → option_and_then (λ (x : Option Kept). x) o ≡ Some k → o ≡ Some (Some k)
+    both None e = absurd (cc)
+    both (Some x) e = ap Some e
+
+-- where no text is kept there is no content
+pub no_text : (xs : List StoredFile) (ks : List (Option Kept)) (files : List ProjectFile) → AreKept xs ks → files_of xs ks ≡ files → (f : FileNo)
+    → own_kept ks f.0 ≡ None → content_at files f ≡ None
+no_text xs ks files kept view f at = ap (λ all. content_at all f) (sym view) ∙ by (slice_get ks f.0) at (content_by 0 xs ks kept f.0) where
+  by : (o : Option (Option Kept)) → option_and_then (λ (x : Option Kept). x) o ≡ None → ContentBy 0 xs (slice_get (files_of xs ks) f.0) f.0 o
+      → content_at (files_of xs ks) f ≡ None
+  by None at h = h
+  by (Some None) at h = h
+  by (Some (Some k)) at h = absurd (cc)

@@ -3,11 +3,15 @@ ghost use Rattle.linker_base.specs.Members.{IsMember};
 ghost use Rattle.element_store.specs.Model.{Data};
 ghost use Rattle.book_model.specs.Files.{model_at, name_at, stored, text_at};
 ghost use Rattle.book_model.specs.Live.{HasModel, IsLiveMember, IsLiveReference};
+ghost use Rattle.std.specs.Option.{option_copied, option_map};
 ghost use Rattle.book_model.specs.Queries.{member_place, reference_place};
+ghost use Rattle.book_model.specs.Readings.{fault_place};
+ghost use Rattle.book_model.specs.Rows.{report_by, report_of};
 ghost use Rattle.written_names.specs.Spellable.{AreNamesSpellable};
-ghost use Rattle.project_files.specs.Kept.{ArePlacesWithin, MayKeep, content_of, with_content_at};
+ghost use Rattle.project_files.specs.Kept.{ArePlacesWithin, MayKeep, StandsWithin};
+ghost use Rattle.project_files.specs.Kept.{content_at, content_of, own_kept, reading_of, with_content_at};
 
-use book_model::Place;
+use book_model::{FileReport, Place};
 use element_store::{FileModel, FileNo, MemberNo, Models, RefNo, Text};
 use linker_base::NoMemory;
 use source_text::SourceText;
@@ -20,6 +24,45 @@ use text_model::FileFault;
 pub struct Kept {
     pub text: SourceText,
     pub fault: Option<FileFault>,
+}
+
+/// What is kept of the text of a file, if it is present.
+fn kept_at(contents: &[Option<Kept>], file: FileNo) -> Option<&Kept>
+    ensures { option_copied result ≡ own_kept contents.now file.0 }
+{
+    contents.get(file.0 as usize)?.as_ref()
+}
+
+/// The place of a fault, in bytes. Want of memory has none.
+fn place_of_fault(fault: FileFault) -> u32
+    ensures { result ≡ fault_place fault }
+{
+    match fault {
+        FileFault::Encoding(place)
+        | FileFault::Token(place)
+        | FileFault::TooDeep(place)
+        | FileFault::Syntax(place)
+        | FileFault::Limit(place) => place,
+        FileFault::NoMemory => 0,
+    }
+}
+
+/// What is known of a text, by what is kept of it and its model.
+fn report_of(kept: &Kept, model: &FileModel) -> FileReport
+    requires { StandsWithin kept.now }
+    ensures { result
+        ≡ report_by kept.now.text (reading_of kept.now.fault (Some model.now)) }
+{
+    match kept.fault {
+        Some(fault) => FileReport::Refused {
+            fault,
+            place: kept.text.place(place_of_fault(fault)),
+        },
+        None => FileReport::In {
+            elements: model.elements() - 1,
+            references: model.references(),
+        },
+    }
 }
 
 /// The files of a project, those of its library first, then those of its book in order of arrival. A
@@ -51,6 +94,13 @@ impl ProjectFiles {
             models: Models::new(alloc),
             contents: Vec::new(alloc),
         }
+    }
+
+    /// How many files there are.
+    pub fn count(&self) -> u32
+        ensures { result ≡ length self.now }
+    {
+        self.models.files()
     }
 
     /// Adds a file without a text and gives its number, which is the count of the files before it. After
@@ -115,6 +165,30 @@ impl ProjectFiles {
             unreachable!()
         };
         model
+    }
+
+    /// How many bytes the text of a file has, if it is present.
+    pub fn size(&self, file: FileNo) -> Option<usize>
+        ensures { result ≡ option_map (λ c. length c.text) (content_at self.now file) }
+    {
+        match kept_at(&self.contents, file) {
+            Some(kept) => Some(kept.text.bytes().len()),
+            None => None,
+        }
+    }
+
+    /// What is known of the text of a file, if it is present: how much its model holds, or its fault with
+    /// the fault's place.
+    pub fn report(&self, file: FileNo) -> Option<FileReport>
+        ensures { result ≡ option_map report_of (content_at self.now file) }
+    {
+        match kept_at(&self.contents, file) {
+            Some(kept) => match self.models.model(file) {
+                Some(model) => Some(report_of(kept, model)),
+                None => unreachable!(),
+            },
+            None => None,
+        }
     }
 
     /// Lends the text of a file that has a model.
