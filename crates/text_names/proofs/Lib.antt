@@ -1,0 +1,3 @@
+pub mod PlaceWalk
+pub mod PlaceLaws
+pub mod NameLaws
