@@ -1,0 +1,35 @@
+use Rattle.std.proofs.Common.{◌≡◌, ◌∙◌, length, sym, ap, subst}
+use Rattle.book_model.specs.declared.edit.Edit.TheVariants.{Put}
+use Rattle.book_model.specs.Book.{Edited, bytes_in, edited, put_in}
+use Rattle.project_book.specs.Named.{book_of}
+use Rattle.project_book.proofs.HeldLaws.{put_done, put_sized}
+use Rattle.project_book.proofs.project.Project.put.Goals as goal
+
+pub invariant_of-self : goal.invariant_of-self
+invariant_of-self c =
+    let before = c.self.inside.named in
+    let after = c.keep.new.self in
+    let files = ap (λ held. held.files) c.self.view_is in
+    let room = subst (λ fs. (c.in-Ok.bytes ≡ bytes_in (put_in (book_of fs) c.args.name c.args.text))
+    × (edited (book_of fs) (Put c.args.name c.args.text) ≡ Edited.Changed (put_in (book_of fs) c.args.name c.args.text)))
+    (sym files) (c.in-Ok.ensures c.args.text (sym (ap length c.bytes.ensures))) in
+    let done = put_done before after c.args.name c.args.text c.in-Ok-keep.file c.files.ensures.read c.in-Ok-keep.ensures.kept room.1 in
+    put_sized before after c.self.inside.bytes c.in-Ok.bytes c.args.name c.args.text c.self.invariant room.1 done room.0
+
+pub returns-in-Ok-keep : goal.returns-in-Ok-keep
+returns-in-Ok-keep c =
+    let before = c.self.inside.named in
+    let after = c.keep.new.self in
+    let files = ap (λ held. held.files) c.self.view_is in
+    let kept = c.in-Ok-keep.ensures.kept in
+    let room = (c.in-Ok.ensures c.args.text (sym (ap length c.bytes.ensures))).1 in
+    let room_inside = subst (λ fs. edited (book_of fs) (Put c.args.name c.args.text) ≡ Edited.Changed (put_in (book_of fs) c.args.name c.args.text))
+    (sym files) room in
+    let done = put_done before after c.args.name c.args.text c.in-Ok-keep.file c.files.ensures.read kept room_inside in (
+      (
+        sym (ap (λ held. held.broken) c.self.view_is) ∙ c.if-self.false,
+        ap (λ fs. edited (book_of fs) (Put c.args.name c.args.text)) (sym files) ∙ done,
+        c.if-self.false,
+      ),
+      (kept.number, kept.below),
+    )

@@ -1,0 +1,69 @@
+-- The files of a project without a library: the book that they are of, their numbers, and that each is read from its
+-- text.
+use Rattle.std.specs.Prelude.{◌≡◌, ◌≢◌, ℕ, suc, ◌<◌, cond, false, List, [], ◌∷◌, length, map, Option, Some, None}
+use Rattle.std.specs.Option.{option_map}
+use Rattle.element_store.specs.declared.numbers.FileNo.{FileNo}
+use Rattle.element_store.specs.declared.outcome.Language.{Language}
+use Rattle.element_store.specs.Model.{Data, bare_model}
+use Rattle.text_model.specs.declared.fault.FileFault.{FileFault}
+use Rattle.text_model.specs.declared.fault.FileFault.TheVariants.{NoMemory}
+use Rattle.text_model.specs.Profile.{InProfile, IsFaultOf}
+use Rattle.book_model.specs.Book.{Book}
+use Rattle.book_model.specs.Readings.{language_of}
+use Rattle.book_model.specs.Files.{Content, ProjectFile, IsContentOf, is_under, number_under, with_content}
+
+-- the text of a content
+abbrev pub text_in_content : Option Content → Option (List ℕ)
+text_in_content c = option_map (λ x. x.text) c
+
+-- THE BOOK of files: their names, each with its text or gone
+abbrev pub book_of : List ProjectFile → Book
+book_of files = map (λ f. (f.name, text_in_content f.content)) files
+
+-- the numbers of files by their names, where the first has the number n
+abbrev pub numbers_from : ℕ → List ProjectFile → List (List ℕ × FileNo)
+numbers_from n [] = []
+numbers_from n (f ∷ fs) = (f.name, record { 0 = n }) ∷ numbers_from (suc n) fs
+
+-- the file is one of the book, and has what its text is read as
+pub record IsRead (number : FileNo) (f : ProjectFile) : Type 0 where
+  pub own : f.library ≡ false
+  pub content : IsContentOf number (language_of f.name) (text_in_content f.content) f.content
+
+-- each is, where the first has the number n
+abbrev pub AreReadFrom : ℕ → List ProjectFile → Type 0
+AreReadFrom n [] = Unit {0}
+AreReadFrom n (f ∷ fs) = IsRead (record { 0 = n }) f × AreReadFrom (suc n) fs
+
+-- each file is
+abbrev pub AreRead : List ProjectFile → Type 0
+AreRead files = AreReadFrom 0 files
+
+-- the number of the file under a name; none where the name is new
+abbrev pub IsNumberUnder : List ProjectFile → List ℕ → Option FileNo → Type 0
+IsNumberUnder files name (Some n) = (number_under files name ≡ n.0) × (n.0 < length files)
+IsNumberUnder files name None = number_under files name ≡ length files
+
+-- a text is read as this model; or it has this fault, and the model of an empty file stands in
+abbrev pub IsReadAs : FileNo → Language → List ℕ → Option FileFault → Data → Type 0
+IsReadAs file language text None d = InProfile file language text d
+IsReadAs file language text (Some fault) d =
+    (fault ≢ NoMemory) × IsFaultOf language text fault × (d ≡ bare_model file language)
+
+-- a fault, unless it is want of memory
+abbrev pub known : FileFault → Option FileFault
+known NoMemory = None
+known fault = Some fault
+
+-- the files with this name; a new one goes last, without a text
+abbrev pub with_name : List ProjectFile → List ℕ → List ProjectFile
+with_name [] name = record { name = name; library = false; content = None } ∷ []
+with_name (f ∷ fs) name = cond (is_under name f) (f ∷ fs) (f ∷ with_name fs name)
+
+-- a text is kept under a name, and read; its file has this number
+pub record IsKeptUnder (before after : List ProjectFile) (name text : List ℕ) (file : FileNo) : Type 0 where
+  pub content : Content
+  pub text_is : content.text ≡ text
+  pub files : after ≡ with_content before name (Some content)
+  pub number : number_under after name ≡ file.0
+  pub below : file.0 < length after

@@ -1,0 +1,153 @@
+ghost use Rattle.std.specs.Prelude.{◌≡◌, [], Some, false};
+ghost use Rattle.book_model.specs.declared.edit.Edit.TheVariants.{Drop as Dropped};
+ghost use Rattle.book_model.specs.Files.{AreFilesOf};
+ghost use Rattle.project_book.specs.Held.{IsApplied, IsPut, IsRoomFor};
+ghost use Rattle.project_book.specs.Named.{IsNumberUnder, book_of};
+
+use crate::faults::{Applied, ApplyFault};
+use crate::named::NamedFiles;
+use book_model::Edit;
+use demand_core::{Ledger, Steps};
+use element_store::{FileName, FileNo, Text};
+use linker_base::limits::{BOOK_BYTES, FILE_BYTES, NAMES};
+use project_files::ProjectFiles;
+use std::alloc::Global;
+use std::marker::Model;
+
+/// A project without a library: a book of files, each read to its model or its fault. Contracts see the
+/// files and the mark of a project that want of memory broke.
+#[derive(Drop)]
+pub struct Project {
+    alloc: Global,
+    named: NamedFiles,
+    // The bytes of all present texts.
+    bytes: usize,
+    broken: bool,
+}
+
+impl Model for Project {
+    ghost use Rattle.project_book.specs.Held.{Held, IsSized};
+
+    ghost Value = { Held };
+
+    ghost view = { λ p. record { files = p.named; broken = p.broken } };
+
+    ghost invariant = { λ p. IsSized p.named p.bytes };
+}
+
+impl Project {
+    /// An empty book, which takes no memory.
+    pub fn new(alloc: Global) -> Project
+        ensures { result ≡ record { files = []; broken = false } }
+    {
+        Project {
+            alloc,
+            named: NamedFiles::new(alloc),
+            bytes: 0,
+            broken: false,
+        }
+    }
+
+    /// Lends the files of the book.
+    pub fn files(&self) -> &ProjectFiles
+        ensures lent { result.now ≡ self.now.files }
+        ensures are { AreFilesOf (book_of self.now.files) [] self.now.files }
+    {
+        self.named.files()
+    }
+
+    /// The number of the file under a name, if the book has the name.
+    pub fn number(&self, name: &FileName) -> Option<FileNo>
+        ensures { IsNumberUnder self.now.files name.now result }
+    {
+        self.named.number(name)
+    }
+
+    /// Whether want of memory broke the project.
+    pub fn is_broken(&self) -> bool
+        ensures { result ≡ self.now.broken }
+    {
+        self.broken
+    }
+
+    /// The bytes of all present texts after a put of so many bytes, or the number that it would pass.
+    fn bytes_after(&self, name: &FileName, size: usize) -> Result<usize, u64>
+        ensures { IsRoomFor (book_of self.now.files) name.now size result }
+    {
+        if size > FILE_BYTES {
+            return Err(FILE_BYTES as u64);
+        }
+        if self.named.count_with(name) > NAMES {
+            return Err(NAMES as u64);
+        }
+        let bytes = self.bytes + size - self.named.size(name).unwrap_or(0);
+        if bytes > BOOK_BYTES {
+            return Err(BOOK_BYTES as u64);
+        }
+        Ok(bytes)
+    }
+
+    /// Puts a text under a name, and gives the number of its file. `Limit` comes exactly where the put
+    /// would pass a number of the book, with that number. A text with a fault is kept with its fault.
+    pub fn put(&mut self, name: FileName, text: Text) -> Result<FileNo, ApplyFault>
+        ensures { IsPut self.old self.new (name, text) result }
+    {
+        if self.broken {
+            return Err(ApplyFault::Broken);
+        }
+        // A look at the files tells that each is read from its text.
+        let _ = self.named.files();
+        let bytes = match self.bytes_after(&name, text.bytes().len()) {
+            Ok(bytes) => bytes,
+            Err(number) => return Err(ApplyFault::Limit(number)),
+        };
+        match self.named.keep(self.alloc, name, text) {
+            Ok(file) => {
+                self.bytes = bytes;
+                Ok(file)
+            }
+            Err(_) => {
+                self.broken = true;
+                Err(ApplyFault::NoMemory)
+            }
+        }
+    }
+
+    /// Drops the text under a name. The name stays, and counts. `NotThere` comes exactly where no text
+    /// stands under it.
+    pub fn remove(&mut self, name: &FileName) -> Result<Applied, ApplyFault>
+        ensures { IsApplied self.old self.new (Dropped name.now) result }
+    {
+        if self.broken {
+            return Err(ApplyFault::Broken);
+        }
+        let _ = self.named.files();
+        match self.named.clear(name) {
+            Some(size) => {
+                self.bytes -= size;
+                Ok(Applied::Changed)
+            }
+            None => Ok(Applied::NotThere),
+        }
+    }
+
+    /// Edits the book. `Broken` comes exactly where an earlier edit of this project answered `NoMemory`,
+    /// and before every other answer.
+    pub fn apply<L: Ledger>(
+        &mut self,
+        edit: Edit,
+        steps: &mut Steps<L>,
+    ) -> Result<Applied, ApplyFault>
+        ensures applied { IsApplied self.old self.new edit result }
+        ensures steps { steps.new ≡ steps.old }
+    {
+        let _ = &*steps;
+        match edit {
+            Edit::Put { name, text } => match self.put(name, text) {
+                Ok(_) => Ok(Applied::Changed),
+                Err(fault) => Err(fault),
+            },
+            Edit::Drop { name } => self.remove(&name),
+        }
+    }
+}
