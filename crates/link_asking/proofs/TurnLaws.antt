@@ -13,8 +13,12 @@ use Rattle.std.proofs.Common.{
   [],
   ◌∷◌,
   ◌++◌,
+  ◌+◌,
+  ◌≤◌,
   map,
   length,
+  drop,
+  get_or,
   refl,
   sym,
   ap,
@@ -23,6 +27,7 @@ use Rattle.std.proofs.Common.{
   inr,
   append-nil,
   append_assoc,
+  arith,
 }
 use Rattle.std.specs.Prelude.{◌⊎◌, zero, suc, slice_get, Option, None, Some}
 use Rattle.std.specs.Option.{option_map}
@@ -59,10 +64,28 @@ use Rattle.link_tiers.specs.declared.picking.Picked.{Picked}
 use Rattle.link_tiers.specs.declared.picking.Picked.TheVariants as picked
 use Rattle.link_tiers.proofs.AnsweredLaws.{answered_then, answered_stop, answered_done, answered_on, answered_wait}
 use Rattle.link_tiers.proofs.PickLaws.{pick_same, pick_is, chosen_of, ranked_item}
-use Rattle.link_asking.specs.Courses.{course_of, ahead, Turned, PickStands, Leaves, Follows, Steps, Begins, first_turn, ended_turn, StandsOn}
+use Rattle.link_asking.specs.Courses.{
+  course_of,
+  course_at,
+  onward,
+  ahead,
+  Turned,
+  PickStands,
+  Leaves,
+  Follows,
+  Steps,
+  Begins,
+  GoesOn,
+  RunsAlong,
+  first_turn,
+  ended_turn,
+  StandsOn,
+}
 use Rattle.link_asking.specs.declared.course.Course.{Course as CodeCourse}
+use Rattle.link_asking.specs.declared.course.Course.TheVariants as code
 use Rattle.link_asking.specs.declared.turns.Turn.{Turn}
 use Rattle.link_asking.specs.declared.turns.Turn.TheVariants as turn
+use Rattle.link_asking.proofs.OutcomeLaws.{drop_here, drop_past}
 
 -- the names that are left
 abbrev Names : Type 0
@@ -187,6 +210,12 @@ pick_stands v hs (picked.One e) old new hits a =
     let there = chosen_one v.models.now hs e (some_same _ _ told.0) in
     subst (StandsIn (files_of v)) there.2 (hits there.0 there.1).1
 
+-- what the first segment found stands
+pub first_stands : (files : List StoredFile) (p : Picked) → PickStands files p → StandsOn files (Some (first_turn p))
+first_stands files picked.Nothing h = tt
+first_stands files (picked.One e) h = h
+first_stands files (picked.Several first second) h = tt
+
 -- where it ended nothing goes on
 pub ended_stands : (files : List StoredFile) (o : Option Outcome) → StandsOn files (ended_turn o)
 ended_stands files None = tt
@@ -224,3 +253,80 @@ module _ (v : View) (whole : Asks Course) (start : Noted) where
   left_all n at found here left =
       subst (λ zs. Answered whole (Some (Reached zs)) start here) (append-nil found)
       (left (Some (Reached [])) here (answered_done (read_by v) (Reached []) here))
+
+-- OF THE NAMES behind the first as many are found as that number says: of any search that left them all, the rest is left
+abbrev pub AreLeft : View → Names → ElementNo → List ElementNo → Noted → ℕ → ElementNo → List ElementNo → Noted → Type 0
+AreLeft v names from begun old n at found here = (whole : Asks Course) (start : Noted)
+    → Leaves (library_of (files_of v)) (read_by v) 2 (drop 1 names) from begun whole start old
+    → Leaves (library_of (files_of v)) (read_by v) (n + 1) (drop n names) at found whole start here
+
+module _ (v : View) (names : Names) (from : ElementNo) (begun : List ElementNo) (old : Noted) where
+  pub left_first : AreLeft v names from begun old 1 from begun old
+  left_first = λ whole start h. h
+
+  -- one name more is left, where it isn't the last
+  left_name : (n : ℕ) (x : List ℕ) (at : ElementNo) (found : List ElementNo) (here : Noted) → n < length names → x ≡ get_or names n []
+      → AreLeft v names from begun old n at found here → (whole : Asks Course) (start : Noted)
+      → Leaves (library_of (files_of v)) (read_by v) 2 (drop 1 names) from begun whole start old
+      → IsLeft v whole start (n + 1) (x ∷ drop (n + 1) names) at found here
+  left_name n x at found here lt is left whole start h =
+      subst (λ xs. IsLeft v whole start (n + 1) xs at found here) (drop_here names n x [] lt is) (left whole start h)
+
+  pub left_next : (n : ℕ) (x : List ℕ) (at e : ElementNo) (found : List ElementNo) (t : Option Turn) (here new : Noted) → n < length names
+      → x ≡ get_or names n [] → onward t ≡ Some e → AreLeft v names from begun old n at found here → Steps v (n + 1) x at t here new
+      → AreLeft v names from begun old (n + 1) e (found ++ e ∷ []) new
+  left_next n x at e found None here new lt is on left step = cc
+  left_next n x at e found (Some (turn.Ended o)) here new lt is on left step = cc
+  left_next n x at e found (Some (turn.On f)) here new lt is on left step = λ whole start h.
+      let up : suc (n + 1) ≡ n + 1 + 1 = omega arith in
+      let same : f ≡ e = some_same f e on in
+      subst (λ k. IsLeft v whole start k (drop (n + 1) names) e (found ++ e ∷ []) new) up
+      (subst (λ z. IsLeft v whole start (suc (n + 1)) (drop (n + 1) names) z (found ++ z ∷ []) new) same
+      (left_on v whole start (n + 1) x (drop (n + 1) names) at f found here new (left_name n x at found here lt is left whole start h) step))
+
+  -- where it waits or ends
+  pub left_stops : (n : ℕ) (x : List ℕ) (at : ElementNo) (found : List ElementNo) (t : Option Turn) (here new : Noted) → n < length names
+      → x ≡ get_or names n [] → onward t ≡ None → AreLeft v names from begun old n at found here → Steps v (n + 1) x at t here new
+      → GoesOn v (drop 1 names) from begun (course_at t found) old new
+  left_stops n x at found None here new lt is stops left step = λ whole start h.
+      left_waits v whole start (n + 1) x (drop (n + 1) names) at found here new (left_name n x at found here lt is left whole start h) step
+  left_stops n x at found (Some (turn.Ended o)) here new lt is stops left step = λ whole start h.
+      left_ends v whole start (n + 1) x (drop (n + 1) names) at found o here new (left_name n x at found here lt is left whole start h) step
+  left_stops n x at found (Some (turn.On e)) here new lt is stops left step = cc
+
+  -- all are found
+  pub left_none : (n : ℕ) (at : ElementNo) (found : List ElementNo) (here : Noted) → length names ≤ n → AreLeft v names from begun old n at found here
+      → GoesOn v (drop 1 names) from begun (Some (code.Reached found)) old here
+  left_none n at found here le left = λ whole start h.
+      left_all v whole start (n + 1) at found here
+      (subst (λ xs. IsLeft v whole start (n + 1) xs at found here) (drop_past names n le) (left whole start h))
+
+-- A WHOLE NAME: its first segment is decided, and then the others
+behind_one : (e : ElementNo) (y : Option Course) → option_map (ahead (e ∷ [])) y ≡ option_map (behind e) y
+behind_one e None = refl
+behind_one e (Some (Reached es)) = refl
+behind_one e (Some (Ended o)) = refl
+
+module _ (v : View) (g : LinkTrail Hit) (names : Names) (old mid : Noted) where
+  pub runs_stop : (t : Option Turn) (found : List ElementNo) → onward t ≡ None → Begins v g t old mid → RunsAlong v g names (course_at t found) old mid
+  runs_stop None found stops b = λ ts a. b ts a names
+  runs_stop (Some (turn.Ended o)) found stops b = λ ts a. b ts a names
+  runs_stop (Some (turn.On e)) found stops b = cc
+
+  pub runs_on : (t : Option Turn) (e : ElementNo) (course : Option CodeCourse) (new : Noted) → onward t ≡ Some e → Begins v g t old mid
+      → GoesOn v names e (e ∷ []) course mid new → RunsAlong v g names course old new
+  runs_on None e course new goes b on = cc
+  runs_on (Some (turn.Ended o)) e course new goes b on = cc
+  runs_on (Some (turn.On f)) e course new goes b on = λ ts a.
+      let w = read_by v in
+      let whole = along (library_of (files_of v)) ts names w in
+      let same : e ≡ f = sym (some_same f e goes) in
+      on whole old (λ y end h. subst (λ z. Answered whole z old end) (sym (behind_one e y))
+      (subst (λ z. Answered whole (option_map (behind z) y) old end) (sym same)
+      (b ts a names y end (subst (λ z. Answered (later (library_of (files_of v)) 2 names z w) y mid end) same h))))
+
+-- the element from which a search goes on stands
+pub onward_stands : (files : List StoredFile) (t : Option Turn) (e : ElementNo) → onward t ≡ Some e → StandsOn files t → StandsIn files e
+onward_stands files None e on h = cc
+onward_stands files (Some (turn.Ended o)) e on h = cc
+onward_stands files (Some (turn.On f)) e on h = subst (StandsIn files) (some_same f e on) h

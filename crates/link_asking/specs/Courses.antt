@@ -8,7 +8,7 @@ use Rattle.element_store.specs.declared.models.StoredFile.{StoredFile}
 use Rattle.element_store.specs.BaseRules.{StandsIn}
 use Rattle.link_model.specs.Asking.{Course}
 use Rattle.link_model.specs.Asking.Course.{Reached, Ended}
-use Rattle.link_model.specs.Asking.{behind, later, met, nothing_visible, along}
+use Rattle.link_model.specs.Asking.{behind, later, met, nothing_visible, along, outcome_of}
 use Rattle.link_model.specs.declared.keys.Hit.{Hit}
 use Rattle.link_model.specs.declared.view.View.{View}
 use Rattle.link_model.specs.Lexical.{Picked as Choice}
@@ -29,6 +29,11 @@ use Rattle.link_asking.specs.declared.turns.Turn.TheVariants as turn
 abbrev pub course_of : CodeCourse → Course
 course_of (code.Reached es) = Reached es
 course_of (code.Ended o) = Ended o
+
+-- the outcome of a course, if there is one, for a path of so many segments
+abbrev pub outcome_if : ℕ → Option CodeCourse → Option Outcome
+outcome_if n None = None
+outcome_if n (Some k) = Some (outcome_of n (course_of k))
 
 -- the segments of a path, and then the steps of a chain
 abbrev pub names_of : List (List ℕ) → List (List ℕ) → List (List ℕ)
@@ -94,10 +99,26 @@ abbrev pub Begins : View → LinkTrail Hit → Option Turn → Noted → Noted �
 Begins v tier turn old new = (ts : List (Lookup (List Hit))) → IsAsked tier (first_of ts (read_by v))
     → Turned (along (library_of (files_of v)) ts) (later (library_of (files_of v)) 2) (read_by v) turn old new
 
--- these names behind the first are found, from the element that it found, of any search that leaves them
-abbrev pub GoesOn : View → List (List ℕ) → ElementNo → Option CodeCourse → Noted → Noted → Type 0
-GoesOn v names from course old new = (whole : Asks Course) (start : Noted)
-    → Leaves (library_of (files_of v)) (read_by v) 2 names from (from ∷ []) whole start old
+-- the element from which a search goes on, if it does
+abbrev pub onward : Option Turn → Option ElementNo
+onward None = None
+onward (Some (turn.On e)) = Some e
+onward (Some (turn.Ended o)) = None
+
+-- the course of a search whose last turn this is, and that found these elements
+abbrev pub course_with : Turn → List ElementNo → CodeCourse
+course_with (turn.On e) found = code.Reached found
+course_with (turn.Ended o) found = code.Ended o
+
+abbrev pub course_at : Option Turn → List ElementNo → Option CodeCourse
+course_at None found = None
+course_at (Some t) found = Some (course_with t found)
+
+-- These names behind the first are found, from the element that it found, of any search that leaves them and has found
+-- these elements.
+abbrev pub GoesOn : View → List (List ℕ) → ElementNo → List ElementNo → Option CodeCourse → Noted → Noted → Type 0
+GoesOn v names from found course old new = (whole : Asks Course) (start : Noted)
+    → Leaves (library_of (files_of v)) (read_by v) 2 names from found whole start old
     → Answered whole (option_map course_of course) start new
 
 -- a whole name is found, of any tiers the first of which that isn't empty gave this

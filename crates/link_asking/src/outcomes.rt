@@ -1,6 +1,6 @@
 ghost use Rattle.std.specs.Prelude.{◌≡◌, ◌-◌, drop, IfOk};
 ghost use Rattle.link_model.specs.Asking as asking;
-ghost use Rattle.link_asking.specs.Courses.{course_of};
+ghost use Rattle.link_asking.specs.Courses.{course_of, outcome_if};
 
 use crate::course::Course;
 use element_store::{ElementNo, Elements, Outcome};
@@ -27,7 +27,7 @@ fn linked(alloc: Global, elements: &[ElementNo], from: usize) -> Result<Outcome,
 }
 
 /// The outcome of a course, for a path of so many segments.
-pub(crate) fn outcome(alloc: Global, course: Course, segments: usize) -> Result<Outcome, NoMemory>
+fn outcome(alloc: Global, course: Course, segments: usize) -> Result<Outcome, NoMemory>
     ensures { IfOk result (λ outcome. outcome ≡ asking.outcome_of segments (course_of course)) }
 {
     match course {
@@ -36,6 +36,23 @@ pub(crate) fn outcome(alloc: Global, course: Course, segments: usize) -> Result<
             let from = segments.saturating_sub(1);
             let outcome = linked(alloc, elements.as_slice(), from)?;
             Ok(outcome)
+        }
+    }
+}
+
+/// The outcome of a course, if there is one.
+pub(crate) fn outcome_if(
+    alloc: Global,
+    course: Option<Course>,
+    segments: usize,
+) -> Result<Option<Outcome>, NoMemory>
+    ensures { IfOk result (λ outcome. outcome ≡ outcome_if segments course) }
+{
+    match course {
+        None => Ok(None),
+        Some(course) => {
+            let outcome = outcome(alloc, course, segments)?;
+            Ok(Some(outcome))
         }
     }
 }
