@@ -4,3 +4,4 @@ pub mod FileLaws
 pub mod RootLaws
 pub mod KeepLaws
 pub mod CallerLaws
+pub mod FirstLaws

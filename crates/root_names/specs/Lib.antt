@@ -1,3 +1,4 @@
+pub mod Firsts
 pub mod Roots
 pub mod Sample
 pub mod Steps

@@ -1,6 +1,7 @@
-ghost use Rattle.std.specs.Prelude.{◌≡◌, ◌<◌, ℕ, None, length, slice_get, OnOk, OnErr, List, Some};
+ghost use Rattle.std.specs.Prelude.{◌≡◌, ◌<◌, ◌+◌, ℕ, None, length, slice_get, IfOk, OnOk, OnErr, List, Some};
 ghost use Rattle.element_store.specs.declared.models.StoredFile.{StoredFile};
 ghost use Rattle.element_store.specs.Stored.{with_model};
+ghost use Rattle.root_names.specs.Firsts.{first_models};
 ghost use Rattle.root_names.specs.Roots.{bearing, AreRootsOf, HaveNoModel};
 
 use crate::placing::put_file;
@@ -68,6 +69,32 @@ impl RootNames {
         } else {
             take_file(&mut self.project, models, file);
         }
+    }
+
+    /// Puts the names of a file's root in, where those of the files before it stand alone.
+    fn enter(&mut self, alloc: Global, models: &Models, number: FileNo) -> Result<(), NoMemory>
+        requires within { number.0 < length models.now }
+        requires before { AreRootsOf (first_models number.0 models.now) self.old }
+        ensures { OnOk result (AreRootsOf (first_models (number.0 + 1) models.now) self.new) }
+    {
+        // A look at the files tells that no name stands twice among them.
+        let _ = models.files();
+        if models.is_library(number) {
+            put_file(&mut self.library, alloc, models, number)
+        } else {
+            put_file(&mut self.project, alloc, models, number)
+        }
+    }
+
+    /// The names of the roots of all files.
+    pub fn of(alloc: Global, models: &Models) -> Result<RootNames, NoMemory>
+        ensures { IfOk result (AreRootsOf models.now) }
+    {
+        let mut roots = RootNames::new(alloc);
+        for file in 0..models.files() {
+            roots.enter(alloc, models, FileNo(file))?;
+        }
+        Ok(roots)
     }
 
     /// Lends the public members of the roots of project files that bear the name, least first.
