@@ -1,0 +1,4 @@
+mod ImportLaws
+mod NarrowLaws
+mod NameLaws
+mod OwningLaws

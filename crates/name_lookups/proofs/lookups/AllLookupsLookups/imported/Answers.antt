@@ -1,0 +1,18 @@
+use Rattle.std.proofs.Common.{[], ◌∷◌}
+use Rattle.demand_core.specs.Tables.{entry_of}
+use Rattle.link_model.specs.Imports.{imported}
+use Rattle.link_model.specs.Keys.{same_key}
+use Rattle.link_model.specs.Outside.{library_of}
+use Rattle.link_walk.specs.Calls.{files_of}
+use Rattle.name_lookups.proofs.ImportLaws.{gives_imported}
+use Rattle.name_lookups.proofs.NarrowLaws.{found_by}
+use Rattle.name_lookups.proofs.lookups.AllLookupsLookups.imported.Goals as goal
+
+pub returns-clause-found : goal.returns-clause-found
+returns-clause-found c =
+    let files = files_of c.args.view.now in
+    let table = c.args.view.now.table.now in
+    found_by files c.files.ensures.kept table c.requires.links c.in_ok-gains.gains
+    (imported (library_of files) c.args.name.now (c.args.excluded ∷ []) c.args.import)
+    (gives_imported files c.files.ensures.kept (entry_of same_key table) c.requires.links (library_of files) c.args.name.now (c.args.excluded ∷ [])
+    c.args.import) c.in_ok-gains.ensures

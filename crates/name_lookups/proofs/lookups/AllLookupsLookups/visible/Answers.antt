@@ -1,0 +1,17 @@
+use Rattle.demand_core.specs.Tables.{entry_of}
+use Rattle.std.proofs.Common.{[], false}
+use Rattle.link_model.proofs.FitLaws.{gives_visible}
+use Rattle.link_model.specs.Imports.{visible}
+use Rattle.link_model.specs.Outside.{library_of}
+use Rattle.link_model.specs.Keys.{same_key}
+use Rattle.link_walk.specs.Calls.{files_of}
+use Rattle.name_lookups.proofs.NarrowLaws.{found_by}
+use Rattle.name_lookups.proofs.lookups.AllLookupsLookups.visible.Goals as goal
+
+pub returns-clause-found : goal.returns-clause-found
+returns-clause-found c =
+    let files = files_of c.args.view.now in
+    let table = c.args.view.now.table.now in
+    found_by files c.files.ensures.kept table c.requires.links c.in_ok-gains.gains (visible (library_of files) c.args.name.now [] false false c.args.of)
+    (gives_visible files c.files.ensures.kept (entry_of same_key table) c.requires.links
+    (library_of files) c.args.name.now [] false false c.args.of) c.in_ok-gains.ensures
