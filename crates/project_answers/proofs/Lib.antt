@@ -1,0 +1,4 @@
+pub mod SpotLaws
+pub mod PartLaws
+pub mod AnswerLaws
+pub mod RowLaws

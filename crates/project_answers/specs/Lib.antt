@@ -1,0 +1,4 @@
+pub mod Lines
+pub mod Holds
+pub mod Spots
+pub mod RowLines
