@@ -18,7 +18,7 @@ narrowed_hit all h = model h.member.file
 abbrev pub MembersStand : List StoredFile → List Hit → Type 0
 MembersStand files hs = (h : Hit) → IsMember hs h → MemberStands files h.member
 
--- it is Done over decided looks alone, and so on
+-- the three laws of computations hold of a lookup: a word for clauses, where its facts have no type to be told by
 abbrev pub IsRegularLookup : {A : Type 0} → Lookup A → Type 0
 IsRegularLookup c = IsRegular c
 
