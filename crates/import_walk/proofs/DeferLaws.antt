@@ -31,7 +31,7 @@ use Rattle.link_walk.specs.Marks.{same_fact}
 use Rattle.link_walk.specs.Noted.{Noted, noted, waits_of, Reads, Tells, TellsStep}
 use Rattle.link_walk.proofs.GainLaws.{plus, gained_asked}
 use Rattle.link_walk.proofs.MarkLaws.{fact_is_exact, all_kept, all_now, all_new}
-use Rattle.import_walk.specs.Deferred.{HuntTrail, HitPart, HitAsked, asks_task, again_from, tiers_then, imports_at, members_at, width, Defers, IsHunt, AllTasksStand, weight}
+use Rattle.import_walk.specs.Deferred.{HuntTrail, HitPart, HitAsked, asks_task, again_from, tiers_then, inside_if, shows, imports_at, members_at, width, Defers, IsHunt, AllTasksStand, Asking, weight}
 use Rattle.import_walk.specs.declared.hunt.Task.{Task}
 
 -- the union of all but the last, and the last
@@ -54,9 +54,9 @@ pub record Looked {C : Type 0} (a : Asked LinkKey LinkFact C) (old mid : HuntTra
   pub has : (y : HitPart) → Aside a y → IsKnown mid y
   pub only : (y : HitPart) → IsKnown mid y → IsKnown old y ⊎ Aside a y
 
-module _ (lib : Library) (x : List ℕ) (base : ℕ) (files : List StoredFile) (w : LinkWorld) (inner : List ElementNo) where
+module _ (ask : Asking) (files : List StoredFile) (w : LinkWorld) (inner : List ElementNo) where
   abbrev Here : ℕ → HitAsked → HuntTrail → HuntTrail → Type 0
-  Here n a old new = Defers lib x base files w inner n a old new
+  Here n a old new = Defers ask files w inner n a old new
 
   pub defers_none : (n : ℕ) (t : HuntTrail) → Here n (done [] w) t t
   defers_none n t = record {
@@ -170,7 +170,7 @@ module _ (lib : Library) (x : List ℕ) (base : ℕ) (files : List StoredFile) (
 
   -- a task is added
   pub defers_task : (recursive all_members : Bool) (e : ElementNo) (old : HuntTrail) → StandsIn files e
-      → Here 1 (asks_task lib x base (record { excluded = inner; recursive = recursive; all = all_members; namespace = e }) w) old
+      → Here 1 (ask (record { excluded = inner; recursive = recursive; all = all_members; namespace = e }) w) old
       (record {
         nodes = old.nodes ++ record { excluded = inner; recursive = recursive; all = all_members; namespace = e } ∷ [];
         found = old.found;
@@ -185,7 +185,7 @@ module _ (lib : Library) (x : List ℕ) (base : ℕ) (files : List StoredFile) (
         kept = λ y k. same_known y k;
         shown = λ y s. inr (t, inl refl, s);
         only = λ y k. inl (known_same y k);
-        pending = λ u y. elim [ inl is ↦ λ a. subst (λ z. Admits (asks_task lib x base z w) y) (sym is) a | inr none ↦ absurd none ];
+        pending = λ u y. elim [ inl is ↦ λ a. subst (λ z. Admits (ask z w) y) (sym is) a | inr none ↦ absurd none ];
         inside = λ u. elim [ inl is ↦ subst (λ (z : Task). (z.excluded ≡ inner) × StandsIn files z.namespace) is (refl, m) | inr none ↦ absurd none ];
         count = omega arith;
       }
@@ -244,9 +244,9 @@ looked_noted {C} a tasks found old = record { nodes = refl; kept = kept_by; has 
     only_by (Awaits q) k = elim (all_new same_key key_is_exact (waits_of a.step) old.waits q k) [ inl o ↦ inl o | inr now ↦ inr (in_waits a.step q now) ]
     only_by (LooksAt f) k = all_new same_fact fact_is_exact a.looks old.looks f k
 
-module _ (lib : Library) (x : List ℕ) (base : ℕ) (files : List StoredFile) (w : LinkWorld) (inner : List ElementNo) where
+module _ (ask : Asking) (files : List StoredFile) (w : LinkWorld) (inner : List ElementNo) where
   -- what is gained without a task
-  pub defers_gained : (n : ℕ) (a : HitAsked) (old new : HuntTrail) → new.nodes ≡ old.nodes → Gained a old new → Defers lib x base files w inner n a old new
+  pub defers_gained : (n : ℕ) (a : HitAsked) (old new : HuntTrail) → new.nodes ≡ old.nodes → Gained a old new → Defers ask files w inner n a old new
   defers_gained n a old new same g = record {
     added = [];
     grown = same ∙ sym (append-nil old.nodes);
@@ -260,13 +260,13 @@ module _ (lib : Library) (x : List ℕ) (base : ℕ) (files : List StoredFile) (
 
   -- an asking of its own is added
   pub defers_gains : {A : Type 0} (n : ℕ) (g : Trail LinkKey LinkFact A Hit) (a : HitAsked) (old : HuntTrail) → IsAsked g a
-      → Defers lib x base files w inner n a old (plus old g.found g.waits g.looks)
+      → Defers ask files w inner n a old (plus old g.found g.waits g.looks)
   defers_gains n g a old h = defers_gained n a old (plus old g.found g.waits g.looks) refl (gained_asked g a old h)
 
   -- where the first stage of its own waits or found something, the second adds nothing
   pub defers_first : {A : Type 0} (n : ℕ) (g : Trail LinkKey LinkFact A Hit) (c : Lookup (List Hit)) (f : List Hit → Lookup (List Hit)) (old : HuntTrail)
       → IsAsked g (c w) → (g.waits ≡ [] → g.found ≡ [] → ⊥) → ((h : Hit) (hs : List Hit) → f (h ∷ hs) w ≡ done (h ∷ hs) w)
-      → Defers lib x base files w inner n ((c >>= f) w) old (plus old g.found g.waits g.looks)
+      → Defers ask files w inner n ((c >>= f) w) old (plus old g.found g.waits g.looks)
   defers_first n g c f old h some same = let e = first_same (c w).step (c w).looks g.waits g.found h.step some in defers_gains n g ((c >>= f) w) old
       (record { step = e.0; looks = subst (SameMembers g.looks) (sym e.1) h.looks })
     where
@@ -285,11 +285,11 @@ module _ (lib : Library) (x : List ℕ) (base : ℕ) (files : List StoredFile) (
   -- where it waits on nothing and found nothing, the second stage has nothing to go by
   pub defers_second : {A : Type 0} (n : ℕ) (g : Trail LinkKey LinkFact A Hit) (c : Lookup (List Hit)) (f : List Hit → Lookup (List Hit))
       (old new : HuntTrail) → IsAsked g (c w) → g.waits ≡ [] → g.found ≡ []
-      → Defers lib x base files w inner n (f [] w) (plus old g.found g.waits g.looks) new → Defers lib x base files w inner n ((c >>= f) w) old new
+      → Defers ask files w inner n (f [] w) (plus old g.found g.waits g.looks) new → Defers ask files w inner n ((c >>= f) w) old new
   defers_second n g c f old new h no_waits no_found d =
       let is = empty_step (c w).step g.waits g.found no_waits no_found h.step in
       let own = gained_asked g (c w) old h in
-      defers_after lib x base files w inner n c f [] old (plus old g.found g.waits g.looks) new is (record {
+      defers_after ask files w inner n c f [] old (plus old g.found g.waits g.looks) new is (record {
         nodes = refl;
         kept = own.kept;
         has = aside_has is own.shown;
@@ -319,10 +319,10 @@ module _ (lib : Library) (x : List ℕ) (base : ℕ) (files : List StoredFile) (
   -- something is read, and then
   pub defers_read : {C : Type 0} (n : ℕ) (c : Lookup C) (f : C → Lookup (List Hit)) (v : C) (tasks : List Task) (found : List Hit) (old mid : Noted)
       (new : HuntTrail) → Reads (c w) v old mid
-      → Defers lib x base files w inner n (f v w) (hunt_of tasks found mid) new → Defers lib x base files w inner n ((c >>= f) w) (hunt_of tasks found old) new
+      → Defers ask files w inner n (f v w) (hunt_of tasks found mid) new → Defers ask files w inner n ((c >>= f) w) (hunt_of tasks found old) new
   defers_read n c f v tasks found old mid new h d =
       let waits : noted (waits_of (c w).step) (c w).looks old ≡ mid = ap (λ z. noted (waits_of z) (c w).looks old) h.step ∙ sym h.noted in
-      defers_after lib x base files w inner n c f v (hunt_of tasks found old) (hunt_of tasks found mid) new h.step
+      defers_after ask files w inner n c f v (hunt_of tasks found old) (hunt_of tasks found mid) new h.step
       (subst (λ m. Looked (c w) (hunt_of tasks found old) (hunt_of tasks found m)) waits (looked_noted (c w) tasks found old)) d
 
   looked_tells : {C : Type 0} (a : Asked LinkKey LinkFact (List C)) (o : Option C) (tasks : List Task) (found : List Hit) (old mid : Noted)
@@ -332,16 +332,16 @@ module _ (lib : Library) (x : List ℕ) (base : ℕ) (files : List StoredFile) (
 
   -- a reference leads nowhere, or is open
   pub defers_nowhere : {C : Type 0} (n : ℕ) (c : Lookup (List C)) (f : C → Lookup (List Hit)) (tasks : List Task) (found : List Hit) (old mid : Noted)
-      → Tells (c w) None old mid → Defers lib x base files w inner n ((c >>= joined f) w) (hunt_of tasks found old) (hunt_of tasks found mid)
+      → Tells (c w) None old mid → Defers ask files w inner n ((c >>= joined f) w) (hunt_of tasks found old) (hunt_of tasks found mid)
   defers_nowhere {C = C} n c f tasks found old mid h = by_step (c w).step refl h.step
     where
-      by_step : (step : Step LinkKey (List C)) → (c w).step ≡ step → TellsStep step None → Defers lib x base files w inner n ((c >>= joined f) w)
+      by_step : (step : Step LinkKey (List C)) → (c w).step ≡ step → TellsStep step None → Defers ask files w inner n ((c >>= joined f) w)
           (hunt_of tasks found old) (hunt_of tasks found mid)
       by_step (Done xs) is s =
-          defers_after lib x base files w inner n c (joined f) [] (hunt_of tasks found old) (hunt_of tasks found mid) (hunt_of tasks found mid) (is
+          defers_after ask files w inner n c (joined f) [] (hunt_of tasks found old) (hunt_of tasks found mid) (hunt_of tasks found mid) (is
           ∙ ap Done s) (looked_tells (c w) None tasks found old mid h)
-          (defers_none lib x base files w inner n (hunt_of tasks found mid))
-      by_step (Waits ks) is s = defers_waits lib x base files w inner n c (joined f) ks (hunt_of tasks found old) (hunt_of tasks found mid) is (looked_tells
+          (defers_none ask files w inner n (hunt_of tasks found mid))
+      by_step (Waits ks) is s = defers_waits ask files w inner n c (joined f) ks (hunt_of tasks found old) (hunt_of tasks found mid) is (looked_tells
           (c w) None tasks found old mid h)
 
   joined_one : {C : Type 0} (f : C → Lookup (List Hit)) (e : C) → joined f (e ∷ []) w ≡ f e w
@@ -350,26 +350,26 @@ module _ (lib : Library) (x : List ℕ) (base : ℕ) (files : List StoredFile) (
   -- a reference leads to an element
   pub defers_somewhere : {C : Type 0} (n : ℕ) (c : Lookup (List C)) (f : C → Lookup (List Hit)) (e : C) (tasks : List Task) (found : List Hit)
       (old mid : Noted) (new : HuntTrail) → Tells (c w) (Some e) old mid
-      → Defers lib x base files w inner n (f e w) (hunt_of tasks found mid) new → Defers lib x base files w inner n ((c >>= joined f) w)
+      → Defers ask files w inner n (f e w) (hunt_of tasks found mid) new → Defers ask files w inner n ((c >>= joined f) w)
       (hunt_of tasks found old) new
   defers_somewhere {C = C} n c f e tasks found old mid new h d = by_step (c w).step refl h.step
     where
-      by_step : (step : Step LinkKey (List C)) → (c w).step ≡ step → TellsStep step (Some e) → Defers lib x base files w inner n ((c >>= joined f) w)
+      by_step : (step : Step LinkKey (List C)) → (c w).step ≡ step → TellsStep step (Some e) → Defers ask files w inner n ((c >>= joined f) w)
           (hunt_of tasks found old) new
       by_step (Done xs) is s =
-          defers_after lib x base files w inner n c (joined f) (e ∷ []) (hunt_of tasks found old) (hunt_of tasks found mid) new (is ∙ ap Done s)
+          defers_after ask files w inner n c (joined f) (e ∷ []) (hunt_of tasks found old) (hunt_of tasks found mid) new (is ∙ ap Done s)
           (looked_tells (c w) (Some e) tasks found old mid h)
-          (defers_equal lib x base files w inner n (f e w) (joined f (e ∷ []) w) (hunt_of tasks found mid) new (sym (joined_one f e)) d)
+          (defers_equal ask files w inner n (f e w) (joined f (e ∷ []) w) (hunt_of tasks found mid) new (sym (joined_one f e)) d)
       by_step (Waits ks) is s = absurd (let none : ⊥ = cc in none)
 
   -- by a test
-  pub defers_true : (n : ℕ) (b : Bool) (c d : Lookup (List Hit)) (old new : HuntTrail) → b ≡ true → Defers lib x base files w inner n (c w) old new
-      → Defers lib x base files w inner n (cond b c d w) old new
-  defers_true n b c d old new e h = subst (λ z. Defers lib x base files w inner n (cond z c d w) old new) (sym e) h
+  pub defers_true : (n : ℕ) (b : Bool) (c d : Lookup (List Hit)) (old new : HuntTrail) → b ≡ true → Defers ask files w inner n (c w) old new
+      → Defers ask files w inner n (cond b c d w) old new
+  defers_true n b c d old new e h = subst (λ z. Defers ask files w inner n (cond z c d w) old new) (sym e) h
 
-  pub defers_false : (n : ℕ) (b : Bool) (c d : Lookup (List Hit)) (old new : HuntTrail) → b ≡ false → Defers lib x base files w inner n (d w) old new
-      → Defers lib x base files w inner n (cond b c d w) old new
-  defers_false n b c d old new e h = subst (λ z. Defers lib x base files w inner n (cond z c d w) old new) (sym e) h
+  pub defers_false : (n : ℕ) (b : Bool) (c d : Lookup (List Hit)) (old new : HuntTrail) → b ≡ false → Defers ask files w inner n (d w) old new
+      → Defers ask files w inner n (cond b c d w) old new
+  defers_false n b c d old new e h = subst (λ z. Defers ask files w inner n (cond z c d w) old new) (sym e) h
 
 -- the conditions of a decision
 pub decided_some : {A B : Type 0} (ws : List A) (fs : List B) → (not (is_nil ws) || not (is_nil fs)) ≡ true → ws ≡ [] → fs ≡ [] → ⊥
@@ -385,7 +385,7 @@ decided_none (v ∷ ws) fs e = cc
 -- a task, a step down
 pub task_is : (lib : Library) (x : List ℕ) (base : ℕ) (t : Task) → length t.excluded < base → asks_task lib x base t ≡ cond (is_in t.namespace t.excluded)
     (done [])
-    (join (tiers_then lib x base (t.namespace ∷ t.excluded) t.all t.namespace) (cond t.recursive (inside (again_from lib x base
+    (join (tiers_then lib x (asks_task lib x base) (t.namespace ∷ t.excluded) t.all t.namespace) (cond t.recursive (inside (again_from (asks_task lib x base)
     (t.namespace ∷ t.excluded)) t.all t.namespace) (done [])))
 unfolding visible_from
 task_is lib x base t lt = ap (λ k. visible_from lib k x t.excluded t.recursive t.all t.namespace) (one_less base (length t.excluded) lt)
@@ -394,11 +394,11 @@ task_is lib x base t lt = ap (λ k. visible_from lib k x t.excluded t.recursive 
     one_less b l lt = omega arith
 
 -- THE LOOP
-pub hunt_next : (lib : Library) (x : List ℕ) (base : ℕ) (files : List StoredFile) (w : LinkWorld) (inner : List ElementNo) (n : ℕ) (a : HitAsked) (t : Task)
-    (rest : List Task) (old new : HuntTrail) → old.nodes ≡ rest ++ t ∷ [] → IsHunt lib x base w a old
-    → Defers lib x base files w inner n (asks_task lib x base t w) (record { nodes = rest; found = old.found; waits = old.waits; looks = old.looks }) new
-    → IsHunt lib x base w a new
-hunt_next lib x base files w inner n a t rest old new is h d =
+pub hunt_next : (ask : Asking) (files : List StoredFile) (w : LinkWorld) (inner : List ElementNo) (n : ℕ) (a : HitAsked) (t : Task)
+    (rest : List Task) (old new : HuntTrail) → old.nodes ≡ rest ++ t ∷ [] → IsHunt ask w a old
+    → Defers ask files w inner n (ask t w) (record { nodes = rest; found = old.found; waits = old.waits; looks = old.looks }) new
+    → IsHunt ask w a new
+hunt_next ask files w inner n a t rest old new is h d =
     let mine : IsMember old.nodes t = subst (λ z. IsMember z t) (sym is) (member_right rest (t ∷ []) t (inl refl)) in
     let theirs : (u : Task) → IsMember rest u → IsMember old.nodes u = λ u m. subst (λ z. IsMember z u) (sym is) (member_left rest (t ∷ []) u m) in
     record {
@@ -407,7 +407,7 @@ hunt_next lib x base files w inner n a t rest old new is h d =
         | inr u ↦ elim (member_cases rest (t ∷ []) u.0 (subst (λ z. IsMember z u.0) is u.1)) [
           | inl left ↦ inr (u.0, subst (λ z. IsMember z u.0) (sym d.grown) (member_left rest d.added u.0 left), u.2)
           | inr last ↦ elim last [
-            | inl here ↦ elim (d.shown y (subst (λ z. Shows (asks_task lib x base z w) y) (sym here) u.2)) [
+            | inl here ↦ elim (d.shown y (subst (λ z. Shows (ask z w) y) (sym here) u.2)) [
               | inl k ↦ inl k
               | inr v ↦ inr (v.0, subst (λ z. IsMember z v.0) (sym d.grown) (member_right rest d.added v.0 v.1), v.2)
             ]
@@ -433,16 +433,16 @@ hunt_next lib x base files w inner n a t rest old new is h d =
     known_same (LooksAt f) k = k
 
 -- where no task is left, all is known
-pub hunt_ends : (lib : Library) (x : List ℕ) (base : ℕ) (w : LinkWorld) (a : HitAsked) (hunt : HuntTrail) → hunt.nodes ≡ [] → IsSound w.table a.step a.looks
-    → IsHunt lib x base w a hunt → IsAsked hunt a
-hunt_ends lib x base w a hunt none sound h = is_asked w.table hunt a sound
+pub hunt_ends : (ask : Asking) (w : LinkWorld) (a : HitAsked) (hunt : HuntTrail) → hunt.nodes ≡ [] → IsSound w.table a.step a.looks
+    → IsHunt ask w a hunt → IsAsked hunt a
+hunt_ends ask w a hunt none sound h = is_asked w.table hunt a sound
     (λ y s. elim (h.shown y s) [ inl k ↦ k | inr t ↦ absurd (subst (λ z. IsMember z t.0) none t.1) ])
     (λ y k. h.only y k)
 
 -- what a first asking leaves
-pub hunt_begins : (lib : Library) (x : List ℕ) (base : ℕ) (files : List StoredFile) (w : LinkWorld) (inner : List ElementNo) (n : ℕ) (a : HitAsked)
-    (new : HuntTrail) → Defers lib x base files w inner n a (record { nodes = []; found = []; waits = []; looks = [] }) new → IsHunt lib x base w a new
-hunt_begins lib x base files w inner n a new d = record {
+pub hunt_begins : (ask : Asking) (files : List StoredFile) (w : LinkWorld) (inner : List ElementNo) (n : ℕ) (a : HitAsked)
+    (new : HuntTrail) → Defers ask files w inner n a (record { nodes = []; found = []; waits = []; looks = [] }) new → IsHunt ask w a new
+hunt_begins ask files w inner n a new d = record {
   shown = λ y s. elim (d.shown y s) [ inl k ↦ inl k | inr t ↦ inr (t.0, subst (λ z. IsMember z t.0) (sym d.grown) t.1, t.2) ];
   only = λ y k. elim (d.only y k) [ inl o ↦ absurd (nothing y o) | inr b ↦ b ];
   pending = λ t y m b. d.pending t y (subst (λ z. IsMember z t) d.grown m) b;
@@ -477,11 +477,11 @@ weight_alike all inner (t ∷ ts) h =
     sum_is a b c l e f = let more : suc l * b ≡ l * b + b = suc-mul l b in omega arith
 
 -- each task gives tasks of less weight
-pub hunt_less : (lib : Library) (x : List ℕ) (base : ℕ) (files : List StoredFile) (w : LinkWorld) (all : List ElementNo) (n : ℕ) (a : HitAsked) (t : Task)
+pub hunt_less : (ask : Asking) (files : List StoredFile) (w : LinkWorld) (all : List ElementNo) (n : ℕ) (a : HitAsked) (t : Task)
     (rest : List Task) (old mid new : HuntTrail) → old.nodes ≡ rest ++ t ∷ [] → mid.nodes ≡ rest → IsMember all t.namespace → n < 2 ^ 66
-    → (is_in t.namespace t.excluded ≡ true → new ≡ mid) → Defers lib x base files w (t.namespace ∷ t.excluded) n a mid new
+    → (is_in t.namespace t.excluded ≡ true → new ≡ mid) → Defers ask files w (t.namespace ∷ t.excluded) n a mid new
     → weight all new.nodes < weight all old.nodes
-hunt_less lib x base files w all n a t rest old mid new is rests member narrow same d =
+hunt_less ask files w all n a t rest old mid new is rests member narrow same d =
     let whole : weight all old.nodes ≡ weight all rest + weight all (t ∷ []) = ap (weight all) is ∙ weight_append all rest (t ∷ []) in
     let some : 1 ≤ (2 ^ 66) ^ off_count same_element t.excluded all = one-le-pow (off_count same_element t.excluded all) (2 ^ 66) (omega arith) in
     elim (bool_cases (is_in t.namespace t.excluded)) [
@@ -507,10 +507,10 @@ hunt_less lib x base files w all n a t rest old mid new is rests member narrow s
     less_some new old rest added many one e f g h = omega arith
 
 -- the tasks after one more
-pub tasks_in : (lib : Library) (x : List ℕ) (base : ℕ) (files : List StoredFile) (w : LinkWorld) (inner : List ElementNo) (n : ℕ) (a : HitAsked) (t : Task)
+pub tasks_in : (ask : Asking) (files : List StoredFile) (w : LinkWorld) (inner : List ElementNo) (n : ℕ) (a : HitAsked) (t : Task)
     (rest : List Task) (old mid new : HuntTrail) → old.nodes ≡ rest ++ t ∷ [] → mid.nodes ≡ rest → AllTasksStand files old.nodes
-    → Defers lib x base files w inner n a mid new → AllTasksStand files new.nodes
-tasks_in lib x base files w inner n a t rest old mid new is rests fits d u m = elim (member_cases rest d.added u (subst (λ z. IsMember z u) (d.grown ∙ ap
+    → Defers ask files w inner n a mid new → AllTasksStand files new.nodes
+tasks_in ask files w inner n a t rest old mid new is rests fits d u m = elim (member_cases rest d.added u (subst (λ z. IsMember z u) (d.grown ∙ ap
     (λ z. z ++ d.added) rests) m)) [
       | inl left ↦ fits u (subst (λ z. IsMember z u) (sym is) (member_left rest (t ∷ []) u left))
       | inr right ↦ (d.inside u right).1
@@ -521,34 +521,37 @@ task_in files t rest ts is fits = fits t (subst (λ z. IsMember z t) (sym is) (m
 
 -- a task that is excluded gives nothing
 pub defers_excluded : (lib : Library) (x : List ℕ) (base : ℕ) (files : List StoredFile) (w : LinkWorld) (n : ℕ) (t : Task) (h : HuntTrail)
-    → length t.excluded < base → is_in t.namespace t.excluded ≡ true → Defers lib x base files w (t.namespace ∷ t.excluded) n (asks_task lib x base t w) h h
+    → length t.excluded < base → is_in t.namespace t.excluded ≡ true
+    → Defers (asks_task lib x base) files w (t.namespace ∷ t.excluded) n (asks_task lib x base t w) h h
 defers_excluded lib x base files w n t h lt there =
-    defers_equal lib x base files w (t.namespace ∷ t.excluded) n (cond (is_in t.namespace t.excluded) (done []) (join (tiers_then lib x base
-    (t.namespace ∷ t.excluded) t.all t.namespace) (cond t.recursive (inside (again_from lib x base (t.namespace ∷ t.excluded)) t.all t.namespace)
-    (done []))) w) (asks_task lib x base t w) h h
+    let ask = asks_task lib x base in
+    let whole = shows lib x ask (t.namespace ∷ t.excluded) t in
+    defers_equal ask files w (t.namespace ∷ t.excluded) n (cond (is_in t.namespace t.excluded) (done []) whole w) (ask t w) h h
     (ap (λ (c : Lookup (List Hit)). c w) (sym (task_is lib x base t lt)))
-    (defers_true lib x base files w (t.namespace ∷ t.excluded) n (is_in t.namespace t.excluded) (done []) (join (tiers_then lib x base
-    (t.namespace ∷ t.excluded) t.all t.namespace) (cond t.recursive (inside (again_from lib x base (t.namespace ∷ t.excluded)) t.all t.namespace)
-    (done []))) h h there
-    (defers_none lib x base files w (t.namespace ∷ t.excluded) n h))
+    (defers_true ask files w (t.namespace ∷ t.excluded) n (is_in t.namespace t.excluded) (done []) whole h h there
+    (defers_none ask files w (t.namespace ∷ t.excluded) n h))
 
--- a task gives its tiers and what is inside
-pub defers_expanded : (lib : Library) (x : List ℕ) (base : ℕ) (files : List StoredFile) (w : LinkWorld) (t : Task) (old mid new : HuntTrail)
+-- a namespace shows its tiers and what is inside
+pub defers_shown : (lib : Library) (x : List ℕ) (ask : Asking) (files : List StoredFile) (w : LinkWorld) (inner : List ElementNo) (t : Task)
+    (old mid new : HuntTrail)
+    → Defers ask files w inner (length (imports_at files t.namespace)) (tiers_then lib x ask inner t.all t.namespace w) old mid
+    → Defers ask files w inner (length (members_at files t.namespace)) (inside_if ask inner t.recursive t.all t.namespace w) mid new
+    → Defers ask files w inner (width files t) (shows lib x ask inner t w) old new
+defers_shown lib x ask files w inner t old mid new g h = defers_join ask files w inner (length (imports_at files t.namespace)) (length
+    (members_at files t.namespace)) (tiers_then lib x ask inner t.all t.namespace) (inside_if ask inner t.recursive t.all t.namespace) old mid new g h
+
+-- a task that isn't excluded gives what its namespace shows
+pub defers_expanded : (lib : Library) (x : List ℕ) (base : ℕ) (files : List StoredFile) (w : LinkWorld) (t : Task) (old new : HuntTrail)
     → length t.excluded < base → is_in t.namespace t.excluded ≡ false
-    → Defers lib x base files w (t.namespace ∷ t.excluded) (length (imports_at files t.namespace)) (tiers_then lib x base
-    (t.namespace ∷ t.excluded) t.all t.namespace w) old mid
-    → Defers lib x base files w (t.namespace ∷ t.excluded) (length (members_at files t.namespace)) (cond t.recursive (inside (again_from lib x base
-    (t.namespace ∷ t.excluded)) t.all t.namespace) (done []) w) mid new
-    → Defers lib x base files w (t.namespace ∷ t.excluded) (width files t) (asks_task lib x base t w) old new
-defers_expanded lib x base files w t old mid new lt off g h =
-    let tiers = tiers_then lib x base (t.namespace ∷ t.excluded) t.all t.namespace in
-    let more = cond t.recursive (inside (again_from lib x base (t.namespace ∷ t.excluded)) t.all t.namespace) (done []) in
-    defers_equal lib x base files w (t.namespace ∷ t.excluded) (width files t) (cond (is_in t.namespace t.excluded) (done []) (join tiers more) w)
+    → Defers (asks_task lib x base) files w (t.namespace ∷ t.excluded) (width files t) (shows lib x (asks_task lib x base)
+    (t.namespace ∷ t.excluded) t w) old new
+    → Defers (asks_task lib x base) files w (t.namespace ∷ t.excluded) (width files t) (asks_task lib x base t w) old new
+defers_expanded lib x base files w t old new lt off h =
+    let whole = shows lib x (asks_task lib x base) (t.namespace ∷ t.excluded) t in
+    defers_equal (asks_task lib x base) files w (t.namespace ∷ t.excluded) (width files t) (cond (is_in t.namespace t.excluded) (done []) whole w)
     (asks_task lib x base t w) old new
     (ap (λ (c : Lookup (List Hit)). c w) (sym (task_is lib x base t lt)))
-    (defers_false lib x base files w (t.namespace ∷ t.excluded) (width files t) (is_in t.namespace t.excluded) (done []) (join tiers more) old new off
-    (defers_join lib x base files w (t.namespace ∷ t.excluded) (length (imports_at files t.namespace)) (length
-    (members_at files t.namespace)) tiers more old mid new g h))
+    (defers_false (asks_task lib x base) files w (t.namespace ∷ t.excluded) (width files t) (is_in t.namespace t.excluded) (done []) whole old new off h)
 
 -- THE CALLS
 steps_are : (l : ℕ) → (most + l) - l ≡ most
@@ -569,12 +572,12 @@ module _ (lib : Library) (x : List ℕ) (files : List StoredFile) (w : LinkWorld
         looks =
             start.looks;
       }
-      → Defers lib x (most + length excluded) files w excluded 1 (asks_task lib x (most + length excluded)
+      → Defers (asks_task lib x (most + length excluded)) files w excluded 1 (asks_task lib x (most + length excluded)
       (record { excluded = excluded; recursive = recursive; all = every; namespace = n }) w) start new
   single recursive every n m is =
-      subst (λ z. Defers lib x (most + length excluded) files w excluded 1 (asks_task lib x (most + length excluded)
+      subst (λ z. Defers (asks_task lib x (most + length excluded)) files w excluded 1 (asks_task lib x (most + length excluded)
       (record { excluded = excluded; recursive = recursive; all = every; namespace = n }) w) start z) (sym is)
-      (defers_task lib x (most + length excluded) files w excluded recursive every n start m)
+      (defers_task (asks_task lib x (most + length excluded)) files w excluded recursive every n start m)
 
   pub hunt_visible : (recursive every : Bool) (n : ElementNo) → StandsIn files n
       → new ≡ record {
@@ -585,15 +588,15 @@ module _ (lib : Library) (x : List ℕ) (files : List StoredFile) (w : LinkWorld
         looks =
             start.looks;
       }
-      → IsHunt lib x (most + length excluded) w (visible lib x excluded recursive every n w) new
+      → IsHunt (asks_task lib x (most + length excluded)) w (visible lib x excluded recursive every n w) new
   hunt_visible recursive every n m is =
-      subst (λ k. IsHunt lib x (most + length excluded) w (visible_from lib k x excluded recursive every n w) new) (steps_are (length excluded))
-      (hunt_begins lib x (most + length excluded) files w excluded 1 (asks_task lib x (most + length excluded)
+      subst (λ k. IsHunt (asks_task lib x (most + length excluded)) w (visible_from lib k x excluded recursive every n w) new) (steps_are (length excluded))
+      (hunt_begins (asks_task lib x (most + length excluded)) files w excluded 1 (asks_task lib x (most + length excluded)
       (record { excluded = excluded; recursive = recursive; all = every; namespace = n }) w) new
-      (subst (λ z. Defers lib x (most + length excluded) files w excluded 1 (asks_task lib x (most + length excluded)
+      (subst (λ z. Defers (asks_task lib x (most + length excluded)) files w excluded 1 (asks_task lib x (most + length excluded)
       (record { excluded = excluded; recursive = recursive; all = every; namespace = n }) w) z new) empty (single recursive every n m is)))
 
-  tasks_begin : (base n : ℕ) (a : HitAsked) → Defers lib x base files w excluded n a start new → AllTasksStand files new.nodes
+  tasks_begin : (base n : ℕ) (a : HitAsked) → Defers (asks_task lib x base) files w excluded n a start new → AllTasksStand files new.nodes
   tasks_begin base n a d t m = (d.inside t (subst (λ z. IsMember z t) (d.grown ∙ ap (λ (h : HuntTrail). h.nodes ++ d.added) empty) m)).1
 
   pub tasks_visible : (recursive every : Bool) (n : ElementNo) → StandsIn files n
@@ -609,15 +612,17 @@ module _ (lib : Library) (x : List ℕ) (files : List StoredFile) (w : LinkWorld
   tasks_visible recursive every n m is = tasks_begin (most + length excluded) 1 (asks_task lib x (most + length excluded)
       (record { excluded = excluded; recursive = recursive; all = every; namespace = n }) w) (single recursive every n m is)
 
-  pub tasks_imported : (brings : (Bool → Bool → ElementNo → Lookup (List Hit)) → Lookup (List Hit)) → ((base : ℕ) → Defers lib x base files w excluded 1
-      (brings (again_from lib x base excluded) w) start new) → AllTasksStand files new.nodes
-  tasks_imported brings d = tasks_begin most 1 (brings (again_from lib x most excluded) w) (d most)
+  pub tasks_imported : (brings : (Bool → Bool → ElementNo → Lookup (List Hit)) → Lookup (List Hit))
+      → ((base : ℕ) → Defers (asks_task lib x base) files w excluded 1
+      (brings (again_from (asks_task lib x base) excluded) w) start new) → AllTasksStand files new.nodes
+  tasks_imported brings d = tasks_begin most 1 (brings (again_from (asks_task lib x most) excluded) w) (d most)
 
-  pub hunt_imported : (brings : (Bool → Bool → ElementNo → Lookup (List Hit)) → Lookup (List Hit)) → ((base : ℕ) → Defers lib x base files w excluded 1
-      (brings (again_from lib x base excluded) w) start new) → IsHunt lib x (most + length excluded) w (brings (visible lib x excluded) w) new
+  pub hunt_imported : (brings : (Bool → Bool → ElementNo → Lookup (List Hit)) → Lookup (List Hit))
+      → ((base : ℕ) → Defers (asks_task lib x base) files w excluded 1
+      (brings (again_from (asks_task lib x base) excluded) w) start new)
+      → IsHunt (asks_task lib x (most + length excluded)) w (brings (visible lib x excluded) w) new
   hunt_imported brings d =
-      subst (λ k. IsHunt lib x (most + length excluded) w (brings (λ recursive every e. visible_from lib k x excluded recursive every e) w) new) (steps_are
-      (length excluded))
-      (hunt_begins lib x (most + length excluded) files w excluded 1 (brings (again_from lib x (most + length excluded) excluded) w) new
-      (subst (λ z. Defers lib x (most + length excluded) files w excluded 1 (brings (again_from lib x (most + length excluded) excluded) w) z new) empty (d
-      (most + length excluded))))
+      let ask = asks_task lib x (most + length excluded) in
+      subst (λ k. IsHunt ask w (brings (λ recursive every e. visible_from lib k x excluded recursive every e) w) new) (steps_are (length excluded))
+      (hunt_begins ask files w excluded 1 (brings (again_from ask excluded) w) new
+      (subst (λ z. Defers ask files w excluded 1 (brings (again_from ask excluded) w) z new) empty (d (most + length excluded))))

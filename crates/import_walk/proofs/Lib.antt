@@ -1,2 +1,3 @@
 mod DeferLaws
 mod PartLaws
+mod PlainLaws

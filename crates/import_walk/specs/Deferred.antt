@@ -44,33 +44,19 @@ task_of excluded recursive all n =
 abbrev pub with_task : HuntTrail → Task → HuntTrail
 with_task h t = record { nodes = h.nodes ++ t ∷ []; found = h.found; waits = h.waits; looks = h.looks }
 
-module _ (lib : Library) (x : List ℕ) (base : ℕ) where
-  -- what a task asks for: a namespace more that is excluded is a step less
-  abbrev pub asks_task : Task → Lookup (List Hit)
-  asks_task t = visible_from lib (base - length t.excluded) x t.excluded t.recursive t.all t.namespace
+-- what tasks ask for
+abbrev pub Asking : Type 0
+Asking = Task → Lookup (List Hit)
 
+-- a task asks for this: a namespace more that is excluded is a step less
+abbrev pub asks_task : Library → List ℕ → ℕ → Asking
+asks_task lib x base t =
+    visible_from lib (base - length t.excluded) x t.excluded t.recursive t.all t.namespace
+
+module _ (ask : Asking) where
   -- what is visible elsewhere, where these are excluded
   abbrev pub again_from : List ElementNo → Bool → Bool → ElementNo → Lookup (List Hit)
-  again_from inner recursive all e = asks_task (task_of inner recursive all e)
-
-  -- what an import of this element brings
-  abbrev pub import_at : List ElementNo → Data → Import → ElementNo → Lookup (List Hit)
-  import_at inner d i e = cond i.star (again_from inner i.recursive i.all e)
-      (join (under_name x (last_written d i) e) (cond i.recursive (again_from inner true i.all e) (done [])))
-
-  -- what the import of that number brings, where it is shown
-  abbrev pub shown_import : List ElementNo → Bool → FileNo → Data → ℕ → Lookup (List Hit)
-  shown_import inner all f d k = told (slice_get d.imports k)
-      (λ i. cond (all || is_public i.visibility) (brought (again_from inner) x f i) (done []))
-
-  -- what the imports of a namespace bring
-  abbrev pub shown_imports : List ElementNo → Bool → ElementNo → Lookup (List Hit)
-  shown_imports inner all n = import_tier (again_from inner) (λ i. all || is_public i.visibility) x n
-
-  -- the tiers of a namespace
-  abbrev pub tiers_then : List ElementNo → Bool → ElementNo → Lookup (List Hit)
-  tiers_then inner all n = first_of (own_tiers lib all x n)
-      >>= λ hs. cond (is_nil hs) (import_tier (again_from inner) (λ i. all || is_public i.visibility) x n) (done hs)
+  again_from inner recursive all e = ask (task_of inner recursive all e)
 
   -- what the member of that number gives, where it is shown
   abbrev pub owned_part : List ElementNo → Bool → FileNo → Data → ℕ → Lookup (List Hit)
@@ -80,6 +66,31 @@ module _ (lib : Library) (x : List ℕ) (base : ℕ) where
   -- what is inside a namespace, where that is asked for
   abbrev pub inside_if : List ElementNo → Bool → Bool → ElementNo → Lookup (List Hit)
   inside_if inner asked all n = cond asked (inside (again_from inner) all n) (done [])
+
+module _ (x : List ℕ) (ask : Asking) where
+  -- what an import of this element brings
+  abbrev pub import_at : List ElementNo → Data → Import → ElementNo → Lookup (List Hit)
+  import_at inner d i e = cond i.star (again_from ask inner i.recursive i.all e)
+      (join (under_name x (last_written d i) e) (cond i.recursive (again_from ask inner true i.all e) (done [])))
+
+  -- what the import of that number brings, where it is shown
+  abbrev pub shown_import : List ElementNo → Bool → FileNo → Data → ℕ → Lookup (List Hit)
+  shown_import inner all f d k = told (slice_get d.imports k)
+      (λ i. cond (all || is_public i.visibility) (brought (again_from ask inner) x f i) (done []))
+
+  -- what the imports of a namespace bring
+  abbrev pub shown_imports : List ElementNo → Bool → ElementNo → Lookup (List Hit)
+  shown_imports inner all n = import_tier (again_from ask inner) (λ i. all || is_public i.visibility) x n
+
+module _ (lib : Library) (x : List ℕ) (ask : Asking) where
+  -- the tiers of a namespace
+  abbrev pub tiers_then : List ElementNo → Bool → ElementNo → Lookup (List Hit)
+  tiers_then inner all n = first_of (own_tiers lib all x n)
+      >>= λ hs. cond (is_nil hs) (import_tier (again_from ask inner) (λ i. all || is_public i.visibility) x n) (done hs)
+
+  -- what a task's namespace shows: its tiers, and what is inside
+  abbrev pub shows : List ElementNo → Task → Lookup (List Hit)
+  shows inner t = join (tiers_then inner t.all t.namespace) (inside_if ask inner t.recursive t.all t.namespace)
 
 -- what the import of that number brings, by what is visible elsewhere
 abbrev pub brings : List ℕ → ImportNo → (Bool → Bool → ElementNo → Lookup (List Hit)) → Lookup (List Hit)
@@ -107,16 +118,16 @@ AllTasksStand files ts = (t : Task) → IsMember ts t → StandsIn files t.names
 
 -- The parts of an asking are known afterwards, or are parts of the tasks that were added; and nothing else is.
 pub record Defers
-    (lib : Library) (x : List ℕ) (base : ℕ) (files : List StoredFile) (w : LinkWorld) (inner : List ElementNo)
-    (most_added : ℕ) (a : HitAsked) (old new : HuntTrail)
+    (ask : Asking) (files : List StoredFile) (w : LinkWorld) (inner : List ElementNo) (most_added : ℕ)
+    (a : HitAsked) (old new : HuntTrail)
     : Type 0 where
   pub added : List Task
   pub grown : new.nodes ≡ old.nodes ++ added
   pub kept : (y : HitPart) → IsKnown old y → IsKnown new y
   pub shown : (y : HitPart) → Shows a y
-      → IsKnown new y ⊎ ((t : Task) × IsMember added t × Shows (asks_task lib x base t w) y)
+      → IsKnown new y ⊎ ((t : Task) × IsMember added t × Shows (ask t w) y)
   pub only : (y : HitPart) → IsKnown new y → IsKnown old y ⊎ Admits a y
-  pub pending : (t : Task) (y : HitPart) → IsMember added t → Admits (asks_task lib x base t w) y → Admits a y
+  pub pending : (t : Task) (y : HitPart) → IsMember added t → Admits (ask t w) y → Admits a y
   pub inside : (t : Task) → IsMember added t → (t.excluded ≡ inner) × StandsIn files t.namespace
   pub count : length added ≤ most_added
 
@@ -124,27 +135,21 @@ pub record Defers
 abbrev pub HasThere : FileNo → Data → List StoredFile → Type 0
 HasThere f d files = model_of files f.0 ≡ Some d
 
--- that of what is asked through a view, whatever the base
-abbrev pub DefersIn : View → List ℕ → List ElementNo → ℕ → (ℕ → Lookup (List Hit)) → HuntTrail → HuntTrail → Type 0
-DefersIn v x inner n c old new = (base : ℕ)
-    → Defers (library_of v.models.now) x base v.models.now (read_by v) inner n (c base (read_by v)) old new
-
--- that of what is visible in the elements of a namespace, under whatever name
-abbrev pub DefersInside : View → List ElementNo → ℕ → (Library → List ℕ → ℕ → Lookup (List Hit)) → HuntTrail
-    → HuntTrail → Type 0
-DefersInside v inner n c old new = (lib : Library) (x : List ℕ) (base : ℕ)
-    → Defers lib x base v.models.now (read_by v) inner n (c lib x base (read_by v)) old new
+-- that of what is asked through a view, whatever tasks ask for
+abbrev pub DefersIn : View → List ElementNo → ℕ → (Asking → Lookup (List Hit)) → HuntTrail → HuntTrail → Type 0
+DefersIn v inner n c old new =
+    (ask : Asking) → Defers ask v.models.now (read_by v) inner n (c ask (read_by v)) old new
 
 -- and wherever it is asked, if this holds of the files
-abbrev pub DefersWhere : (List StoredFile → Type 0) → List ElementNo → ℕ
-    → (Library → List ℕ → ℕ → Lookup (List Hit)) → HuntTrail → HuntTrail → Type 0
-DefersWhere P inner n c old new = (lib : Library) (x : List ℕ) (base : ℕ) (files : List StoredFile) (w : LinkWorld)
-    → P files → Defers lib x base files w inner n (c lib x base w) old new
+abbrev pub DefersWhere : (List StoredFile → Type 0) → List ElementNo → ℕ → (Asking → Lookup (List Hit)) → HuntTrail
+    → HuntTrail → Type 0
+DefersWhere P inner n c old new = (ask : Asking) (files : List StoredFile) (w : LinkWorld) → P files
+    → Defers ask files w inner n (c ask w) old new
 
 -- what a task gives is added, and the tasks that come of it
 abbrev pub GivesTask : View → List ℕ → Task → HuntTrail → HuntTrail → Type 0
 GivesTask v x t old new = (base : ℕ) → 2 ^ 64 ≤ base
-    → Defers (library_of v.models.now) x base v.models.now (read_by v) (t.namespace ∷ t.excluded)
+    → Defers (asks_task (library_of v.models.now) x base) v.models.now (read_by v) (t.namespace ∷ t.excluded)
     (width v.models.now t) (asks_task (library_of v.models.now) x base t (read_by v)) old new
 
 -- the library of what a view sees
@@ -152,17 +157,17 @@ abbrev pub lib_of : View → Library
 lib_of v = library_of v.models.now
 
 -- The same of a whole lookup, with the tasks that are left.
-pub record IsHunt (lib : Library) (x : List ℕ) (base : ℕ) (w : LinkWorld) (a : HitAsked) (hunt : HuntTrail)
-    : Type 0 where
+pub record IsHunt (ask : Asking) (w : LinkWorld) (a : HitAsked) (hunt : HuntTrail) : Type 0 where
   pub shown : (y : HitPart) → Shows a y
-      → IsKnown hunt y ⊎ ((t : Task) × IsMember hunt.nodes t × Shows (asks_task lib x base t w) y)
+      → IsKnown hunt y ⊎ ((t : Task) × IsMember hunt.nodes t × Shows (ask t w) y)
   pub only : (y : HitPart) → IsKnown hunt y → Admits a y
-  pub pending : (t : Task) (y : HitPart) → IsMember hunt.nodes t → Admits (asks_task lib x base t w) y → Admits a y
+  pub pending : (t : Task) (y : HitPart) → IsMember hunt.nodes t → Admits (ask t w) y → Admits a y
 
 -- what is known ends with each lookup of which the hunt was one
 abbrev pub EndsHunt : View → List ℕ → HuntTrail → LinkTrail Hit → Type 0
 EndsHunt v x hunt gains = (base : ℕ) (a : HitAsked) → 2 ^ 64 ≤ base
-    → IsSound (read_by v).table a.step a.looks → IsHunt (lib_of v) x base (read_by v) a hunt → IsAsked gains a
+    → IsSound (read_by v).table a.step a.looks → IsHunt (asks_task (lib_of v) x base) (read_by v) a hunt
+    → IsAsked gains a
 
 -- A number that decreases with each task: each gives less than this base of tasks, and each of these excludes one
 -- element more.

@@ -1,1 +1,2 @@
 pub mod Deferred
+pub mod Plain

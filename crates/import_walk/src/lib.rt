@@ -3,9 +3,11 @@
 //!
 //! A namespace whose visible members are still to be looked up is a task on a list, with the
 //! namespaces that are excluded there, so that no way through imports is limited by a call stack.
+//! Where all tasks ask alike, as with plain imports, each namespace is looked up once.
 #![tactic(auto)]
 
 mod hunt;
+mod plain;
 mod tiers;
 mod visibility;
 

@@ -10,15 +10,16 @@ ghost use Rattle.link_model.specs.Imports as imports;
 ghost use Rattle.link_model.specs.Keys as keys;
 ghost use Rattle.link_model.specs.Outside.{library_of, is_public, Library};
 ghost use Rattle.link_model.specs.Readers.{LinkWorld, is_nil};
-ghost use Rattle.link_walk.specs.Calls.{read_by, HasLinks, ImportStands};
+ghost use Rattle.link_walk.specs.Calls.{files_of, read_by, HasLinks, ImportStands};
 ghost use Rattle.link_walk.specs.Calls.{ReferenceStands};
-ghost use Rattle.import_walk.specs.Deferred.{AllTasksStand, DefersIn, DefersInside, DefersWhere};
+ghost use Rattle.import_walk.specs.Deferred.{AllTasksStand, DefersIn, DefersWhere};
 ghost use Rattle.import_walk.specs.Deferred.{EndsHunt, GivesTask, HasThere, lib_of};
 ghost use Rattle.import_walk.specs.Deferred.{again_from, import_at, shown_import, shown_imports};
 ghost use Rattle.import_walk.specs.Deferred.{inside_if, tiers_then, owned_part, imports_at, members_at};
-ghost use Rattle.import_walk.specs.Deferred.{TargetStandsIn, brings};
+ghost use Rattle.import_walk.specs.Deferred.{TargetStandsIn, brings, shows, width};
 
 use crate::hunt::{Hunt, Task, append_elements};
+use crate::plain::run_plain;
 use crate::tiers::Tiers;
 use element_store::{
     ElementNo, FileModel, FileNo, Import, ImportNo, Item, Member, Name, RefNo, Reference, Target,
@@ -30,7 +31,7 @@ use linker_base::{Listing, NoMemory};
 use std::alloc::Global;
 
 /// Whether the element is among these.
-fn is_in(element: ElementNo, elements: &[ElementNo]) -> bool
+pub(crate) fn is_in(element: ElementNo, elements: &[ElementNo]) -> bool
     ensures { result ≡ keys.is_in element elements.now }
 {
     for other in elements {
@@ -67,7 +68,7 @@ fn defer_if(
     hunt: &mut Hunt,
 ) -> Result<(), NoMemory>
     ensures { OnOk result (DefersWhere (λ files. StandsIn files namespace) inner.now 1
-        (λ lib x base. cond asked (again_from lib x base inner.now true all namespace) (done []))
+        (λ ask. cond asked (again_from ask inner.now true all namespace) (done []))
         hunt.old hunt.new) }
 {
     if asked {
@@ -91,8 +92,8 @@ fn add_target<T: Tiers>(
     requires stands { StandsIn view.now.models.now element }
     requires links { HasLinks view.now }
     requires reference { import.now.reference < length model.now.references }
-    ensures { OnOk result (DefersIn view.now name.now inner.now 1
-        (λ base. import_at (lib_of view.now) name.now base inner.now model.now import.now element)
+    ensures { OnOk result (DefersIn view.now inner.now 1
+        (λ ask. import_at name.now ask inner.now model.now import.now element)
         hunt.old hunt.new) }
 {
     if import.star {
@@ -120,8 +121,8 @@ fn add_import<T: Tiers>(
     requires stands { ReferenceStands view.now.models.now
         (record { file = file; index = import.now.reference }) }
     requires links { HasLinks view.now }
-    ensures { OnOk result (DefersIn view.now name.now inner.now 1
-        (λ base. imports.brought (again_from (lib_of view.now) name.now base inner.now) name.now
+    ensures { OnOk result (DefersIn view.now inner.now 1
+        (λ ask. imports.brought (again_from ask inner.now) name.now
         file import.now) hunt.old hunt.new) }
 {
     let of = model(view, file, &mut hunt.notes)?;
@@ -153,8 +154,8 @@ fn consider_import<T: Tiers>(
     requires there { model_of view.now.models.now number.file.0 ≡ Some model.now }
     requires stands { number.index < length model.now.imports }
     requires links { HasLinks view.now }
-    ensures { OnOk result (DefersIn view.now name.now inner.now 1
-        (λ base. shown_import (lib_of view.now) name.now base inner.now all number.file model.now
+    ensures { OnOk result (DefersIn view.now inner.now 1
+        (λ ask. shown_import name.now ask inner.now all number.file model.now
         number.index) hunt.old hunt.new) }
 {
     let import = model.import(number.index);
@@ -181,8 +182,8 @@ fn add_imports<T: Tiers>(
     requires there { model_of view.now.models.now file.0 ≡ Some model.now }
     requires stand { All (λ k. k < length model.now.imports) numbers.now }
     requires links { HasLinks view.now }
-    ensures { OnOk result (DefersIn view.now name.now inner.now (length numbers.now)
-        (λ base. joined (shown_import (lib_of view.now) name.now base inner.now all file model.now)
+    ensures { OnOk result (DefersIn view.now inner.now (length numbers.now)
+        (λ ask. joined (shown_import name.now ask inner.now all file model.now)
         numbers.now) hunt.old hunt.new) }
 {
     for index in numbers {
@@ -215,9 +216,9 @@ fn add_imports_of<T: Tiers>(
 ) -> Result<(), NoMemory>
     requires stands { StandsIn view.now.models.now of }
     requires links { HasLinks view.now }
-    ensures { OnOk result (DefersIn view.now name.now inner.now
+    ensures { OnOk result (DefersIn view.now inner.now
         (length (imports_at view.now.models.now of))
-        (λ base. shown_imports (lib_of view.now) name.now base inner.now all of)
+        (λ ask. shown_imports name.now ask inner.now all of)
         hunt.old hunt.new) }
 {
     let model = model(view, of.file, &mut hunt.notes)?;
@@ -241,9 +242,9 @@ fn add_tiers<T: Tiers>(
 ) -> Result<(), NoMemory>
     requires stands { StandsIn view.now.models.now of }
     requires links { HasLinks view.now }
-    ensures { OnOk result (DefersIn view.now name.now inner.now
+    ensures { OnOk result (DefersIn view.now inner.now
         (length (imports_at view.now.models.now of))
-        (λ base. tiers_then (lib_of view.now) name.now base inner.now all of)
+        (λ ask. tiers_then (lib_of view.now) name.now ask inner.now all of)
         hunt.old hunt.new) }
 {
     let gains = tiers.own(alloc, view, of, name, all)?;
@@ -266,7 +267,7 @@ fn defer_owned(
     hunt: &mut Hunt,
 ) -> Result<(), NoMemory>
     ensures { OnOk result (DefersWhere (λ files. TargetStandsIn files file target) inner.now 1
-        (λ lib x base. imports.in_owned (again_from lib x base inner.now) all file target)
+        (λ ask. imports.in_owned (again_from ask inner.now) all file target)
         hunt.old hunt.new) }
 {
     match target {
@@ -290,7 +291,7 @@ fn add_member(
 ) -> Result<(), NoMemory>
     requires stands { number < length model.now.members }
     ensures { OnOk result (DefersWhere (λ files. model_of files file.0 ≡ Some model.now)
-        inner.now 1 (λ lib x base. owned_part lib x base inner.now all file model.now number)
+        inner.now 1 (λ ask. owned_part ask inner.now all file model.now number)
         hunt.old hunt.new) }
 {
     let member = model.member(number);
@@ -337,7 +338,7 @@ fn add_members(
 ) -> Result<(), NoMemory>
     requires stand { All (λ k. k < length model.now.members) numbers.now }
     ensures { OnOk result (DefersWhere (HasThere file model.now) inner.now (length numbers.now)
-        (λ lib x base. joined (owned_part lib x base inner.now all file model.now) numbers.now)
+        (λ ask. joined (owned_part ask inner.now all file model.now) numbers.now)
         hunt.old hunt.new) }
 {
     for number in numbers {
@@ -356,9 +357,9 @@ fn add_inside(
     hunt: &mut Hunt,
 ) -> Result<(), NoMemory>
     requires stands { StandsIn view.now.models.now of }
-    ensures { OnOk result (DefersInside view.now inner.now
+    ensures { OnOk result (DefersIn view.now inner.now
         (length (members_at view.now.models.now of))
-        (λ lib x base. imports.inside (again_from lib x base inner.now) all of)
+        (λ ask. imports.inside (again_from ask inner.now) all of)
         hunt.old hunt.new) }
 {
     let model = model(view, of.file, &mut hunt.notes)?;
@@ -379,14 +380,35 @@ fn add_inside_if(
     hunt: &mut Hunt,
 ) -> Result<(), NoMemory>
     requires stands { StandsIn view.now.models.now of }
-    ensures { OnOk result (DefersInside view.now inner.now
+    ensures { OnOk result (DefersIn view.now inner.now
         (length (members_at view.now.models.now of))
-        (λ lib x base. inside_if lib x base inner.now asked all of)
+        (λ ask. inside_if ask inner.now asked all of)
         hunt.old hunt.new) }
 {
     if asked {
         add_inside(alloc, view, all, inner, of, hunt)?;
     }
+    Ok(())
+}
+
+/// What a task's namespace shows: its tiers, and what is inside, where that is asked for.
+pub(crate) fn add_shown<T: Tiers>(
+    alloc: Global,
+    tiers: &T,
+    view: &View,
+    name: &Name,
+    inner: &[ElementNo],
+    task: &Task,
+    hunt: &mut Hunt,
+) -> Result<(), NoMemory>
+    requires stands { StandsIn view.now.models.now task.now.namespace }
+    requires links { HasLinks view.now }
+    ensures { OnOk result (DefersIn view.now inner.now (width (files_of view.now) task.now)
+        (λ ask. shows (lib_of view.now) name.now ask inner.now task.now) hunt.old hunt.new) }
+{
+    let (all, of) = (task.all, task.namespace);
+    add_tiers(alloc, tiers, view, all, name, inner, of, hunt)?;
+    add_inside_if(alloc, task.recursive, view, all, inner, of, hunt)?;
     Ok(())
 }
 
@@ -413,26 +435,7 @@ fn expand<T: Tiers>(
     let mut inner = Listing::new(alloc);
     inner.push(task.namespace)?;
     append_elements(&mut inner, task.excluded.as_slice())?;
-    let at = task.namespace;
-    add_tiers(
-        alloc,
-        tiers,
-        view,
-        task.all,
-        name,
-        inner.as_slice(),
-        at,
-        hunt,
-    )?;
-    add_inside_if(
-        alloc,
-        task.recursive,
-        view,
-        task.all,
-        inner.as_slice(),
-        at,
-        hunt,
-    )?;
+    add_shown(alloc, tiers, view, name, inner.as_slice(), task, hunt)?;
     Ok(())
 }
 
@@ -476,6 +479,11 @@ pub fn visible_hits<T: Tiers>(
         (imports.visible (lib_of view.now) name.now excluded.now recursive all of
         (read_by view.now))) }
 {
+    let mut plain = Hunt::new(alloc);
+    plain.defer(alloc, [].as_slice(), recursive, all, of)?;
+    if let Some(gains) = run_plain(alloc, tiers, view, name, excluded, plain)? {
+        return Ok(gains);
+    }
     let mut hunt = Hunt::new(alloc);
     hunt.defer(alloc, excluded, recursive, all, of)?;
     run(alloc, tiers, view, name, hunt)
@@ -493,8 +501,8 @@ fn add_numbered<T: Tiers>(
 ) -> Result<(), NoMemory>
     requires stands { ImportStands view.now.models.now import }
     requires links { HasLinks view.now }
-    ensures { OnOk result (DefersIn view.now name.now excluded.now 1
-        (λ base. brings name.now import (again_from (lib_of view.now) name.now base excluded.now))
+    ensures { OnOk result (DefersIn view.now excluded.now 1
+        (λ ask. brings name.now import (again_from ask excluded.now))
         hunt.old hunt.new) }
 {
     let model = model(view, import.file, &mut hunt.notes)?;
@@ -519,6 +527,11 @@ pub fn imported_hits<T: Tiers>(
         (imports.imported (library_of view.now.models.now) name.now excluded.now import
         (read_by view.now))) }
 {
+    let mut plain = Hunt::new(alloc);
+    add_numbered(alloc, tiers, view, import, name, [].as_slice(), &mut plain)?;
+    if let Some(gains) = run_plain(alloc, tiers, view, name, excluded, plain)? {
+        return Ok(gains);
+    }
     let mut hunt = Hunt::new(alloc);
     add_numbered(alloc, tiers, view, import, name, excluded, &mut hunt)?;
     run(alloc, tiers, view, name, hunt)

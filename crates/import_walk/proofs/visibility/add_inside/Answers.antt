@@ -21,7 +21,7 @@ add_members-requires c =
     record { stand = subst (All (λ k. k < length d.members)) (sym are) (numbers_all (λ (m : Member). nat_eq m.owner c.args.of.index) d.members) }
 
 pub returns : goal.returns
-returns c lib x base =
+returns c ask =
     let files = c.args.view.now.models.now in
     let w = read_by c.args.view.now in
     let all = c.args.all in
@@ -32,13 +32,13 @@ returns c lib x base =
     let tasks = c.hunt.inside.tasks.items in
     let found = c.hunt.inside.found in
     let are = c.as_slice-2.ensures ∙ (c.in_ok-numbers.ensures ∙ (ap members_in c.as_slice.ensures ∙ c.items-items.ensures.members)) in
-    subst (λ z. Defers lib x base files w inner (length (members_at files c.args.of)) (inside
-    (again_from lib x base inner) all c.args.of w) z c.add_members.new.hunt) c.hunt.view_is
-    (defers_read lib x base files w inner (length (members_at files c.args.of)) (model f) (λ m. joined (owned_part lib x base inner all f m)
+    subst (λ z. Defers ask files w inner (length (members_at files c.args.of)) (inside
+    (again_from ask inner) all c.args.of w) z c.add_members.new.hunt) c.hunt.view_is
+    (defers_read ask files w inner (length (members_at files c.args.of)) (model f) (λ m. joined (owned_part ask inner all f m)
     (members_of m c.args.of.index)) d tasks found c.hunt.inside.notes c.model.new.notes c.add_members.new.hunt
     c.in_ok-model.ensures.read
-    (subst (λ (m : Data). Defers lib x base files w inner (length (members_of m c.args.of.index)) (joined (owned_part lib x base inner all f d)
+    (subst (λ (m : Data). Defers ask files w inner (length (members_of m c.args.of.index)) (joined (owned_part ask inner all f d)
     (members_of d c.args.of.index) w) (hunt_of tasks found c.model.new.notes) c.add_members.new.hunt) (sym there)
-    (subst (λ (ks : List ℕ). Defers lib x base files w inner (length ks) (joined (owned_part lib x base inner all f d) ks w)
+    (subst (λ (ks : List ℕ). Defers ask files w inner (length ks) (joined (owned_part ask inner all f d) ks w)
     (hunt_of tasks found c.model.new.notes) c.add_members.new.hunt) are
-    (c.in_ok-add_members.ensures lib x base files w c.in_ok-model.ensures.stored))))
+    (c.in_ok-add_members.ensures ask files w c.in_ok-model.ensures.stored))))

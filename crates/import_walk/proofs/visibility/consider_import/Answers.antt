@@ -10,7 +10,7 @@ use Rattle.import_walk.proofs.DeferLaws.{defers_true, defers_false, defers_none}
 use Rattle.import_walk.proofs.visibility.consider_import.Goals as goal
 
 pub returns-in_ok-add_import : goal.returns-in_ok-add_import
-returns-in_ok-add_import g c base =
+returns-in_ok-add_import g c ask =
     let files = c.args.view.now.models.now in
     let lib = library_of files in
     let w = read_by c.args.view.now in
@@ -18,14 +18,14 @@ returns-in_ok-add_import g c base =
     let i = c.import-import.result.now in
     let f = c.args.number.file in
     let inner = c.args.inner.now in
-    subst (λ o. Defers lib x base files w inner 1 (told o (λ j. cond (c.args.all || is_public j.visibility) (brought (again_from lib x base inner) x f j)
+    subst (λ o. Defers ask files w inner 1 (told o (λ j. cond (c.args.all || is_public j.visibility) (brought (again_from ask inner) x f j)
     (done [])) w) c.args.hunt.now c.add_import.new.hunt) (sym c.import-import.ensures.lent)
-    (defers_true lib x base files w inner 1 (c.args.all || is_public i.visibility) (brought (again_from lib x base inner) x f i)
+    (defers_true ask files w inner 1 (c.args.all || is_public i.visibility) (brought (again_from ask inner) x f i)
     (done []) c.args.hunt.now c.add_import.new.hunt
-    (sym c.is_shown-shown.ensures ∙ c.if-shown.true) (c.in_ok-add_import.ensures base))
+    (sym c.is_shown-shown.ensures ∙ c.if-shown.true) (c.in_ok-add_import.ensures ask))
 
 pub returns-else-shown : goal.returns-else-shown
-returns-else-shown g c base =
+returns-else-shown g c ask =
     let files = c.args.view.now.models.now in
     let lib = library_of files in
     let w = read_by c.args.view.now in
@@ -33,8 +33,8 @@ returns-else-shown g c base =
     let i = c.import-import.result.now in
     let f = c.args.number.file in
     let inner = c.args.inner.now in
-    subst (λ o. Defers lib x base files w inner 1 (told o (λ j. cond (c.args.all || is_public j.visibility) (brought (again_from lib x base inner) x f j)
+    subst (λ o. Defers ask files w inner 1 (told o (λ j. cond (c.args.all || is_public j.visibility) (brought (again_from ask inner) x f j)
     (done [])) w) c.args.hunt.now c.args.hunt.now) (sym c.import-import.ensures.lent)
-    (defers_false lib x base files w inner 1 (c.args.all || is_public i.visibility) (brought (again_from lib x base inner) x f i)
+    (defers_false ask files w inner 1 (c.args.all || is_public i.visibility) (brought (again_from ask inner) x f i)
     (done []) c.args.hunt.now c.args.hunt.now
-    (sym c.is_shown-shown.ensures ∙ c.if-shown.false) (defers_none lib x base files w inner 1 c.args.hunt.now))
+    (sym c.is_shown-shown.ensures ∙ c.if-shown.false) (defers_none ask files w inner 1 c.args.hunt.now))

@@ -5,15 +5,15 @@ use Rattle.import_walk.proofs.DeferLaws.{defers_true, defers_false, defers_none,
 use Rattle.import_walk.proofs.visibility.defer_if.Goals as goal
 
 pub returns-in_ok-defer : goal.returns-in_ok-defer
-returns-in_ok-defer c lib x base files w stands =
+returns-in_ok-defer c ask files w stands =
     let inner = c.args.inner.now in
-    defers_true lib x base files w inner 1 c.args.asked (again_from lib x base inner true c.args.all c.args.namespace)
+    defers_true ask files w inner 1 c.args.asked (again_from ask inner true c.args.all c.args.namespace)
     (done []) c.args.hunt.now c.defer.new.self c.if-asked.true
-    (subst (Defers lib x base files w inner 1 (again_from lib x base inner true c.args.all c.args.namespace w) c.args.hunt.now) (sym c.in_ok-defer.ensures)
-    (defers_task lib x base files w inner true c.args.all c.args.namespace c.args.hunt.now stands))
+    (subst (Defers ask files w inner 1 (again_from ask inner true c.args.all c.args.namespace w) c.args.hunt.now) (sym c.in_ok-defer.ensures)
+    (defers_task ask files w inner true c.args.all c.args.namespace c.args.hunt.now stands))
 
 pub returns-else-asked : goal.returns-else-asked
-returns-else-asked c lib x base files w stands =
-    defers_false lib x base files w c.args.inner.now 1 c.args.asked (again_from lib x base c.args.inner.now true c.args.all c.args.namespace)
+returns-else-asked c ask files w stands =
+    defers_false ask files w c.args.inner.now 1 c.args.asked (again_from ask c.args.inner.now true c.args.all c.args.namespace)
     (done []) c.args.hunt.now c.args.hunt.now c.if-asked.false
-    (defers_none lib x base files w c.args.inner.now 1 c.args.hunt.now)
+    (defers_none ask files w c.args.inner.now 1 c.args.hunt.now)

@@ -1,11 +1,9 @@
-use Rattle.std.proofs.Common.{◌≡◌, ℕ, List, [], ◌∷◌, ◌<◌, ◌≤◌, ◌^◌, ◌++◌, cond, sym, ◌∙◌, ap, subst, length, arith}
+use Rattle.std.proofs.Common.{◌≡◌, ℕ, List, [], ◌∷◌, ◌<◌, ◌≤◌, ◌^◌, ◌++◌, sym, ◌∙◌, ap, subst, length, arith}
 use Rattle.element_store.specs.declared.numbers.ElementNo.{ElementNo}
-use Rattle.demand_core.specs.Computation.{done}
-use Rattle.link_model.specs.Imports.{inside}
 use Rattle.link_model.specs.Keys.{is_in}
 use Rattle.link_model.specs.Outside.{library_of}
 use Rattle.link_walk.specs.Calls.{read_by}
-use Rattle.import_walk.specs.Deferred.{Defers, again_from, tiers_then, imports_at, members_at, width}
+use Rattle.import_walk.specs.Deferred.{Defers, asks_task, shows, width}
 use Rattle.import_walk.proofs.DeferLaws.{defers_excluded, defers_expanded}
 use Rattle.import_walk.proofs.visibility.expand.Goals as goal
 
@@ -31,10 +29,7 @@ returns-clause-gives g c base le =
     let lt = below c.as_slice-depth.result.now t.excluded base c.as_slice-depth.ensures c.as_slice-depth.type_inv.0 le in
     let inner : c.append_elements.new.elements ≡ t.namespace ∷ t.excluded = c.in_ok-append_elements.ensures ∙ (ap (λ z. z ++ c.as_slice-2.result.now)
     (c.in_ok-push.ensures.ok ∙ ap (λ z. z ++ t.namespace ∷ []) c.new-inner.ensures) ∙ ap (λ z. t.namespace ∷ z) c.as_slice-2.ensures) in
-    defers_expanded lib x base files w t c.args.hunt.now c.add_tiers.new.hunt c.add_inside_if.new.hunt lt (sym (c.is_in-known.ensures ∙ ap
+    defers_expanded lib x base files w t c.args.hunt.now c.add_shown.new.hunt lt (sym (c.is_in-known.ensures ∙ ap
     (is_in t.namespace) c.as_slice.ensures) ∙ c.if-known.false)
-    (subst (λ z. Defers lib x base files w z (length (imports_at files t.namespace))
-    (tiers_then lib x base z t.all t.namespace w) c.args.hunt.now c.add_tiers.new.hunt) (c.as_slice-3.ensures ∙ inner) (c.in_ok-add_tiers.ensures base))
-    (subst (λ z. Defers lib x base files w z (length (members_at files t.namespace)) (cond t.recursive (inside (again_from lib x base z) t.all t.namespace)
-    (done []) w) c.add_tiers.new.hunt c.add_inside_if.new.hunt) (c.as_slice-4.ensures ∙ inner)
-    (c.in_ok-add_inside_if.ensures lib x base))
+    (subst (λ z. Defers (asks_task lib x base) files w z (width files t) (shows lib x (asks_task lib x base) z t w) c.args.hunt.now c.add_shown.new.hunt)
+    (c.as_slice-3.ensures ∙ inner) (c.in_ok-add_shown.ensures (asks_task lib x base)))

@@ -24,7 +24,7 @@ loop-task-smaller g c =
     let rest = c.pop.new.self.items in
     let nodes = sym (ap (λ z. z.nodes) c.hunt.view_is) ∙ c.in-Some.ensures.items in
     let stands = task_in files t rest c.loop-task.hunt.nodes nodes c.loop-task.invariant.stand in
-    hunt_less lib x (2 ^ 64) files w (elements_of files) (width files t) (asks_task lib x (2 ^ 64) t w) t rest c.loop-task.hunt
+    hunt_less (asks_task lib x (2 ^ 64)) files w (elements_of files) (width files t) (asks_task lib x (2 ^ 64) t w) t rest c.loop-task.hunt
     (hunt_of rest c.hunt.inside.found c.hunt.inside.notes) c.expand.new.hunt nodes refl
     (element_among files t.namespace stands) (narrow files c.files.ensures.kept t.namespace stands) c.in_ok-expand.ensures.excluded
     (c.in_ok-expand.ensures.gives (2 ^ 64) (omega arith))
@@ -39,12 +39,12 @@ loop-task-preserved g c =
     let rest = c.pop.new.self.items in
     let nodes = sym (ap (λ z. z.nodes) c.hunt.view_is) ∙ c.in-Some.ensures.items in
     record {
-      stand = tasks_in lib x (2 ^ 64) files w (t.namespace ∷ t.excluded) (width files t) (asks_task lib x (2 ^ 64) t w) t rest c.loop-task.hunt
+      stand = tasks_in (asks_task lib x (2 ^ 64)) files w (t.namespace ∷ t.excluded) (width files t) (asks_task lib x (2 ^ 64) t w) t rest c.loop-task.hunt
           (hunt_of rest c.hunt.inside.found c.hunt.inside.notes) c.expand.new.hunt nodes refl c.loop-task.invariant.stand
           (c.in_ok-expand.ensures.gives (2 ^ 64) (omega arith));
-      hunt = λ base a le h. hunt_next lib x base files w (t.namespace ∷ t.excluded) (width files t) a t rest
+      hunt = λ base a le h. hunt_next (asks_task lib x base) files w (t.namespace ∷ t.excluded) (width files t) a t rest
           (hunt_of c.hunt.inside.tasks.items c.hunt.inside.found c.hunt.inside.notes) c.expand.new.hunt c.in-Some.ensures.items
-          (subst (IsHunt lib x base w a) (sym c.hunt.view_is) (c.loop-task.invariant.hunt base a le h)) (c.in_ok-expand.ensures.gives base le);
+          (subst (IsHunt (asks_task lib x base) w a) (sym c.hunt.view_is) (c.loop-task.invariant.hunt base a le h)) (c.in_ok-expand.ensures.gives base le);
     }
 
 pub returns : goal.returns
@@ -53,7 +53,8 @@ returns g c base a le sound h =
     let lib = library_of files in
     let x = c.args.name.now in
     let w = read_by c.args.view.now in
-    let asked = hunt_ends lib x base w a (hunt_of c.hunt.inside.tasks.items c.hunt.inside.found c.hunt.inside.notes) (c.in_default.ensures.items ∙ ap
+    let asked = hunt_ends (asks_task lib x base) w a (hunt_of c.hunt.inside.tasks.items c.hunt.inside.found c.hunt.inside.notes)
+    (c.in_default.ensures.items ∙ ap
     (λ z. z ++ []) (c.in_default.ensures.rest ∙ ap (λ n. take (n - 1) c.hunt.inside.tasks.items) c.in_default.ensures.cases.0)) sound
-    (subst (IsHunt lib x base w a) (sym c.hunt.view_is) (c.loop-task.invariant.hunt base a le h)) in
+    (subst (IsHunt (asks_task lib x base) w a) (sym c.hunt.view_is) (c.loop-task.invariant.hunt base a le h)) in
     record { step = asked.step; looks = asked.looks }
