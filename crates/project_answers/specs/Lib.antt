@@ -1,0 +1,6 @@
+pub mod Lines
+pub mod Holds
+pub mod Spots
+pub mod Parts
+pub mod RowLines
+pub mod Wrong
