@@ -1,0 +1,268 @@
+#!/usr/bin/env python3
+"""Writes what `lookup_rows` reads and must write: small books, links that are told, lookups, and what each gives.
+
+  make_lookup_rows.py           writes the two files
+  make_lookup_rows.py --check   fails where they differ from what would be written
+
+The books are those of the worked scripts, and some for what lookups meet: generals in a circle, a diamond with a private
+redefinition, aliases of refused references, recursive imports with private packages, imports in a circle, an import of
+itself. Each is asked over its least links, over no link, and with references left open. The other program stands beside
+the repository, in ../shared/oracle; where it isn't, nothing is checked.
+"""
+import glob
+import os
+import random
+import re
+import sys
+
+sys.dont_write_bytecode = True
+
+from example_texts import HAS_OTHER, SHARED, STAGE, on_one_line
+
+CRATE = os.path.join(os.path.dirname(os.path.abspath(__file__)), '..', 'crates', 'lookup_rows')
+SEED = 20261201
+LEAST_OF_WORKED = 40
+if HAS_OTHER:
+    from oracle.linking import Files, Linker, Links, Trail
+    from oracle.model import build
+
+# Books of one file or more: what each is about, and its files in the order in which they arrive.
+BOOKS = [
+    ('generals in a circle', [('a.sysml', 'part def U :> V { part p; } part def V :> U { part q; } part def W :> U;')]),
+    ('a type of its own', [('a.sysml', 'part def A :> A { part x; }')]),
+    ('a diamond with a private redefinition', [(
+        'a.kerml', 'classifier A { feature x; } classifier B :> A; classifier C :> A { private feature y :>> x; } '
+        'classifier D :> B, C;')]),
+    ('a diamond with a redefinition', [(
+        'a.kerml', 'classifier A { feature x; protected feature z; private feature w; } classifier B :> A; '
+        'classifier C :> A { feature x :>> A::x; } classifier D :> B, C { feature :>> z; }')]),
+    ('names that come from redefinitions', [(
+        'a.kerml', 'classifier A { feature <s> x; } classifier B :> A { feature :>> x { feature k; } } '
+        'classifier C :> B { feature :>> x; feature :>> s; }')]),
+    ('aliases of refused references', [(
+        'a.sysml', 'package P { alias a for Nowhere; alias b for a; alias c for Q; private package Q; '
+        'public import a::*; part def R :> b; }')]),
+    ('recursive imports with private packages', [(
+        'a.sysml', 'package P { package Q { part def A; private package H { part def B; } } private package S { part def A; } } '
+        'package I { public import P::**; } package J { public import all P::*::**; } package K { private import I::*; }')]),
+    ('imports in a circle', [
+        ('b.sysml', 'package B { public import A::*; public import C::*; part def b; }'),
+        ('a.sysml', 'package A { public import B::*; public import C::*; part def a; }'),
+        ('c.sysml', 'package C { public import A::*; public import B::*; private import A::a; protected part def c; }')]),
+    ('an import of itself', [('a.sysml', 'package P { public import P::*; public import P::Q; package Q { public import P::**; } }')]),
+    ('plain imports and one that is not', [(
+        'a.sysml', 'package A { public import B::*; } package B { public import A::*; public import C::*::**; } '
+        'package C { public import B::*; package D { part def x; } part def y; }')]),
+    ('a library', [
+        ('$lib/L.kerml', 'library package Base { abstract classifier Anything { feature self; } }'),
+        ('u.sysml', 'part def T; part t : T;')]),
+]
+
+
+def language_of(name):
+    return 'kerml' if name.endswith('.kerml') else 'sysml'
+
+
+def worked_books():
+    """The books that the worked scripts leave, as far as each text can be read."""
+    for path in sorted(glob.glob(os.path.join(SHARED, 'oracle', 'rows', '*.in'))):
+        script, files = open(path, 'rb').read(), {}
+        for found in re.finditer(rb'^put (\S+) (\d+)\n', script, re.M):
+            text = on_one_line(script[found.end():found.end() + int(found.group(2))])
+            name = found.group(1).decode('latin-1')
+            if re.fullmatch(r'[a-z]+\.(sysml|kerml)', name) and text and len(text) < 600:
+                files[name] = text.decode()
+        if 0 < len(files) < 6:
+            yield os.path.basename(path)[:-3], list(files.items())
+
+
+class Book:
+    """A book of files, each with its number in the order of arrival."""
+
+    def __init__(self, files):
+        self.files = files
+        models = {}
+        for name, text in files:
+            model, fault = build(text.encode(), language_of(name), STAGE)
+            models[name.encode()] = None if fault else (text.encode(), model)
+        self.whole = all(models.values())
+        if not self.whole:
+            return
+        project = {n: m for n, m in models.items() if not n.startswith(b'$')}
+        library = {n: m for n, m in models.items() if n.startswith(b'$')}
+        self.over = Files(project, library)
+        self.links = Links(self.over, STAGE)
+        numbers = {name.encode(): number for number, (name, text) in enumerate(files)}
+        self.number = [numbers[name] for name in self.over.names]
+
+    def place(self, pair):
+        return '%d:%d' % (self.number[pair[0]], pair[1])
+
+    def names(self):
+        found = set()
+        for model in self.over.models:
+            for member in model.members:
+                found |= set(member.declared())
+        return sorted(n.decode() for n in found if re.fullmatch(rb'[A-Za-z]+', n))
+
+    def elements(self):
+        return [(rank, i) for rank, model in enumerate(self.over.models) for i in range(len(model.elements))]
+
+    def decided(self, left_open):
+        """The lines that decide all references but these, and the table of them."""
+        lines, table = [], {}
+        for key in self.over.keys():
+            outcome = self.links.table.get(key)
+            if outcome is None or key in left_open:
+                continue
+            if outcome[0] == 'linked':
+                table[key] = outcome
+                lines.append('link %s %s' % (self.place(key), self.place(outcome[2])))
+            else:
+                table[key] = ('absent', 1)
+                lines.append('refuse %s' % self.place(key))
+        return lines, table
+
+
+def look_words(book, looks):
+    words = set()
+    for kind, what in looks:
+        words.add('name' if kind == 'root' else str(book.number[what]) if kind == 'file' else book.place(what))
+    return sorted(words)
+
+
+def line_of(head, words):
+    return ' '.join([head] + sorted(set(words)))
+
+
+def answer_of(book, res, words):
+    if res.done:
+        head = line_of('found', words(res.value))
+    else:
+        head = line_of('waits', [book.place(r) for r in res.waits])
+    return ' '.join([head, 'looks'] + look_words(book, res.looks))
+
+
+def hit_words(book):
+    return lambda hits: ['%s>%s' % (book.place(m), book.place(e)) for m, e in hits]
+
+
+def element_words(book):
+    return lambda elements: [book.place(e) for e in elements]
+
+
+def explicit(settled, e):
+    """The types that are reached from e by what it and they specialise explicitly."""
+    found, todo = set(), [e]
+    while todo:
+        for other in settled.explicit_generals(todo.pop()):
+            if other not in found:
+                found.add(other)
+                todo.append(other)
+    return found
+
+
+def led(over, member):
+    """Where a member leads."""
+    trail, hits = Trail(), []
+    over.hit(trail, hits, member)
+    return trail.res(frozenset(e for m, e in hits))
+
+
+def asked(book, table):
+    """Each lookup over that table with its answer."""
+    over = Linker(book.over, table, STAGE)
+    settled = Linker(book.over, table, STAGE, settled=True, looks=False)
+    hits, elements = hit_words(book), element_words(book)
+    for e in book.elements():
+        at = book.place(e)
+        kind = book.over.element(e)
+        yield 'generals ' + at, answer_of(book, over.generals(e), elements)
+        yield 'settled-generals ' + at, line_of('found', elements(settled.generals(e).value))
+        above = explicit(settled, e)
+        for other in book.elements()[1:]:
+            if kind.is_type() and book.over.element(other).is_type():
+                yield 'specialises %s %s' % (at, book.place(other)), 'true' if other in above else 'false'
+        if kind.is_feature():
+            yield 'redefined ' + at, answer_of(book, over.all_redefined(e), elements)
+            yield 'settled-redefined ' + at, line_of('found', elements(settled.all_redefined(e).value))
+        for name in book.names():
+            x = name.encode()
+            yield 'declared %s %s' % (at, name), answer_of(book, over.tier1(e, x), hits)
+            yield 'effective %s %s' % (at, name), answer_of(book, over.tier2(e, x), hits)
+            if kind.is_type():
+                yield 'inherited %s %s' % (at, name), answer_of(book, over.inherited(e, x), hits)
+                yield 'raw %s %s' % (at, name), answer_of(book, over.inherited(e, x, True), hits)
+            for mode, recursive, every in (('plain', False, False), ('recursive', True, False), ('all', False, True), ('both', True, True)):
+                got = over.visible(e, x, frozenset(), recursive, every)
+                yield 'visible %s %s %s ' % (at, mode, name), answer_of(book, got, hits)
+            other = book.elements()[1 + (e[1] % (len(book.elements()) - 1))] if len(book.elements()) > 1 else e
+            if other != e:
+                got = over.visible(e, x, frozenset([other]), False, False)
+                yield 'visible %s plain %s %s' % (at, name, book.place(other)), answer_of(book, got, hits)
+    for rank, model in enumerate(book.over.models):
+        for member in range(len(model.members)):
+            yield 'member ' + book.place((rank, member)), answer_of(book, led(over, (rank, member)), elements)
+        for made in range(len(model.imports)):
+            owner = (rank, model.imports[made].owner.index) if hasattr(model.imports[made], 'owner') else None
+            for name in book.names():
+                for excluded in [()] + ([(owner,)] if owner else []):
+                    got = over.imported((rank, made), name.encode(), frozenset(excluded))
+                    words = ' '.join(book.place(e) for e in excluded)
+                    yield 'imported %s %s %s' % (book.place((rank, made)), name, words), answer_of(book, got, hits)
+
+
+def tables_of(book):
+    """Which references are left open: none, each alone, two, all."""
+    keys = [k for k in book.over.keys() if k in book.links.table]
+    yield ()
+    for key in keys[:6]:
+        yield (key,)
+    if len(keys) > 1:
+        yield tuple(keys[:2])
+        yield tuple(keys)
+
+
+def written():
+    chance = random.Random(SEED)
+    lines, answers = [], []
+
+    def add(files, tables, most):
+        book = Book(files)
+        if not book.whole:
+            return
+        for left_open in tables(book):
+            decided, table = book.decided(left_open)
+            pairs = list(asked(book, table))
+            if len(pairs) > most:
+                pairs = chance.sample(pairs, most)
+            for name, text in files:
+                lines.append('%s %s %s' % (language_of(name), name, text))
+            lines.extend(decided)
+            for question, answer in pairs:
+                lines.append(question)
+                answers.append(answer)
+            lines.append('end')
+            answers.append('end')
+
+    for about, files in BOOKS:
+        add(files, tables_of, 60)
+    for about, files in worked_books():
+        add(files, lambda book: [()], LEAST_OF_WORKED)
+    return '\n'.join(lines) + '\n', '\n'.join(answers) + '\n'
+
+
+def main():
+    if not HAS_OTHER:
+        return
+    stdin, stdout = written()
+    for name, text in (('stdin', stdin), ('stdout', stdout)):
+        path = os.path.join(CRATE, name)
+        if '--check' in sys.argv:
+            if open(path).read() != text:
+                sys.exit('%s differs from what another program gives' % path)
+        else:
+            open(path, 'w').write(text)
+
+
+main()
