@@ -1,5 +1,5 @@
 #!/usr/bin/env bash
-# Fails where a generated file isn't what its script writes today. The rows of links are compared where the independent
+# Fails where a generated file isn't what its script writes today. The rows of links and the script of `sysml` are compared where the independent
 # implementation that they come from stands beside the repository.
 set -u
 cd "$(dirname "$0")"
@@ -12,5 +12,6 @@ python3 make_lookup_rows.py --check || status=1
 python3 make_library.py --check || status=1
 if [ -d ../../shared/oracle ]; then
   python3 make_link_rows.py --check || status=1
+  python3 make_session_examples.py --check || status=1
 fi
 exit "$status"

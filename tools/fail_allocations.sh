@@ -1,9 +1,9 @@
 #!/usr/bin/env bash
-# Runs the built program on its stored input with its Nth allocation refused, for each N from FIRST (1) on, and checks
-# what it leaves: the run's own status and the whole output, or a status of its own and the whole answers of some first
-# commands. Stops after five N in a row that changed nothing: the run makes no more allocations. It builds once.
+# Runs the built program on a script with its Nth allocation refused, for each N from FIRST (1) on, and checks what it
+# leaves: the run's own status and the whole output, or a status of its own and a front of the answers. Stops after five N
+# in a row that changed nothing: the run makes no more allocations.
 #
-# usage: tools/fail_allocations.sh [FIRST]
+# usage: tools/fail_allocations.sh [FIRST [SCRIPT]]      the script is examples/vehicle.session where none is given
 set -u
 cd "$(dirname "$0")/../crates/sysml" || exit 2
 
@@ -43,25 +43,20 @@ int posix_memalign(void **result, size_t alignment, size_t size) {
 }
 C
 cc -O1 -shared -fPIC -o "$folder/refuse.so" "$folder/refuse.c" || exit 2
-rt run -- $(cat args) < stdin > "$folder/output" 2> /dev/null || { echo "the stored run fails"; exit 2; }
-cmp -s "$folder/output" stdout || { echo "the stored run writes something else"; exit 2; }
-
-# The lengths of the outputs that are whole answers: an answer ends with the line that begins with its command.
-ends=" 0 $(awk '{ size += length($0) + 1 } /^(put|links|end)( |$)/ { printf "%d ", size }' stdout)"
-whole=$(wc -c < stdout)
+script=${2:-../../examples/vehicle.session}
+out/sysml session < "$script" > "$folder/whole" 2> /dev/null || { echo "the run fails"; exit 2; }
+whole=$(wc -c < "$folder/whole")
 number=${1:-1}
 unchanged=0
 wrong=0
 declare -A counts=()
 while [ "$unchanged" -lt 5 ]; do
-    REFUSED_ALLOCATION=$number LD_PRELOAD="$folder/refuse.so" out/sysml $(cat args) \
-        < stdin > "$folder/output" 2> "$folder/errors"
+    REFUSED_ALLOCATION=$number LD_PRELOAD="$folder/refuse.so" out/sysml session \
+        < "$script" > "$folder/output" 2> "$folder/errors"
     status=$?
     size=$(wc -c < "$folder/output")
     verdict=right
-    if ! cmp -s -n "$size" "$folder/output" stdout || [[ "$ends" != *" $size "* ]]; then
-        verdict=wrong
-    fi
+    cmp -s -n "$size" "$folder/output" "$folder/whole" || verdict=wrong
     case $status in
         0) [ "$size" -eq "$whole" ] || verdict=wrong ;;
         "$NO_MEMORY") [ "$(cat "$folder/errors")" = "no memory" ] || verdict=wrong ;;

@@ -2,6 +2,8 @@
 //! order of their ranks, which are read in constant time.
 #![tactic(auto)]
 
+#[cfg(test)]
+mod order_tests;
 mod ranks;
 mod waits;
 

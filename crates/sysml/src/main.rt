@@ -5,7 +5,7 @@ use demand_core::{Counted, Steps};
 use outside_core::{StdSink, StdSource, SteadyShelf};
 use std::env;
 use std::process::ExitCode;
-use sysml_command::run;
+use sysml_command::{exit_code, run};
 
 /// The exit code where the runtime doesn't give the words. No status has it.
 const NO_WORDS: u8 = 8;
@@ -38,5 +38,5 @@ fn main(rt: HostRuntime) -> ExitCode {
         &mut errors,
         &mut steps,
     );
-    ExitCode::from(status.code())
+    ExitCode::from(exit_code(status))
 }

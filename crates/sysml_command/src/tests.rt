@@ -212,15 +212,16 @@ const AMBIGUOUS: Row = Row {
 };
 
 const UNFINISHED: Row = Row {
-    script: b"links x.sysml\ncheck\n",
+    script: b"links x.sysml\nChecks\n",
     output: b"links x.sysml no file\n",
     errors: b"script fault at 14\n",
     status: Status::Script,
 };
 
-const BARE: Row = Row {
-    script: b"put a.sysml 11\npart def A;\nend\n",
-    output: b"put a.sysml refused 1:1 Syntax\nend\n",
+/// Both languages, a file that is refused, a drop, and what is wrong then.
+const ALL_COMMANDS: Row = Row {
+    script: b"put a.kerml 22\nclass A; class B :> Z;\nput b.sysml 15\npart x : A;\nend\ncheck\ndrop a.kerml\ndrop a.kerml\nput c.sysml 15\npart y : x::~X;\nput b.sysml 11\npart x : A;\ncheck\nend",
+    output: b"put a.kerml elements 2 references 1\nput b.sysml refused 2:4 Syntax\na.kerml:1:21 subclass Z -> absent 1\nb.sysml:2:4 refused Syntax\ncheck files 2 references 1 faults 2\ndrop a.kerml done\ndrop a.kerml no file\nput c.sysml refused 1:13 Syntax\nput b.sysml elements 1 references 1\nb.sysml:1:10 typing A -> absent 1\nc.sysml:1:13 refused Syntax\ncheck files 2 references 1 faults 2\nend\n",
     errors: b"",
     status: Status::Done,
 };
@@ -233,12 +234,20 @@ const OTHER_ORDER: Row = Row {
     status: Status::Done,
 };
 
-/// A part definition hides the package of the same name.
-const HIDING: Row = Row {
-    script: b"put a.sysml 42\npackage A { part def A; part def B :> A; }\nlinks a.sysml\nend\n",
-    output: b"put a.sysml elements 3 references 1\n1:39 subclass A -> linked a.sysml A::A\nlinks a.sysml 1\nend\n",
+/// A name that hangs on itself.
+const CYCLIC: Row = Row {
+    script: b"put a.kerml 29\nalias a for b; alias b for a;\nlinks a.kerml\nend\n",
+    output: b"put a.kerml elements 0 references 2\n1:13 alias b -> cyclic a.kerml:1:28\n1:28 alias a -> cyclic a.kerml:1:13\nlinks a.kerml 2\nend\n",
     errors: b"",
     status: Status::Done,
+};
+
+/// A text is longer than it may be.
+const LONG_TEXT: Row = Row {
+    script: b"put a.kerml 1048577\nclass",
+    output: b"",
+    errors: b"limit 1048576\n",
+    status: Status::Limit,
 };
 
 /// Runs a session on the row's script.
@@ -256,7 +265,15 @@ fn is_answered(alloc: Global, row: Row, piece: usize) -> bool {
 
 #[test]
 fn rows_are_answered_in_pieces_of_any_size(rt: HostRuntime) {
-    let rows = [LINKED, AMBIGUOUS, UNFINISHED, BARE, OTHER_ORDER, HIDING];
+    let rows = [
+        LINKED,
+        AMBIGUOUS,
+        UNFINISHED,
+        ALL_COMMANDS,
+        OTHER_ORDER,
+        CYCLIC,
+        LONG_TEXT,
+    ];
     for (number, row) in rows.iter().enumerate() {
         for piece in [WHOLE, 1, 7] {
             assert!(rt;
@@ -380,7 +397,7 @@ fn whole_calls(alloc: Global, piece: usize, input: u64, output: u64) -> bool {
 
 #[test]
 fn a_failing_input_leaves_the_whole_answers(rt: HostRuntime) {
-    for (piece, input, output) in [(7, 11, 15), (1, 76, 95), (WHOLE, 1, 3)] {
+    for (piece, input, output) in [(7, 11, 16), (1, 76, 95), (WHOLE, 1, 4)] {
         for before in 0..input {
             assert!(rt;
                 is_read_fault(rt.alloc(), piece, before),
@@ -414,7 +431,7 @@ fn is_write_fault(alloc: Global, plan: Plan, call: u64, given: usize) -> bool {
 
 #[test]
 fn a_failing_output_leaves_a_prefix(rt: HostRuntime) {
-    let sevens = [0, 7, 14, 21, 28, 35, 36, 43, 50, 57, 64, 71, 78, 85, 91];
+    let sevens = [0, 7, 14, 21, 28, 35, 36, 43, 50, 57, 64, 71, 75, 82, 89, 91];
     for (before, given) in sevens.iter().enumerate() {
         let call = (before as u64).saturating_add(1);
         let plan = Plan {
@@ -427,16 +444,18 @@ fn a_failing_output_leaves_a_prefix(rt: HostRuntime) {
             "call {call}"
         );
     }
-    // The answers end at 36, 91 and 95. Each call gives all that there is room for, and the next one fails.
+    // The pieces end at 36, 75, 91 and 95. Each call gives all that there is room for, and the next one fails.
     for room in 0..95 {
         let calls = if room < 36 {
             1
-        } else if room < 91 {
+        } else if room < 75 {
             2
-        } else {
+        } else if room < 91 {
             3
+        } else {
+            4
         };
-        let is_at_an_end = room == 0 || room == 36 || room == 91;
+        let is_at_an_end = room == 0 || room == 36 || room == 75 || room == 91;
         let call = if is_at_an_end { calls } else { calls + 1 };
         let plan = Plan { room, ..STEADY };
         assert!(rt;

@@ -1,6 +1,0 @@
-pub mod BookLaws
-pub mod FileLaws
-pub mod LinkLaws
-pub mod NameLaws
-pub mod PlaceLaws
-pub mod QueryLaws

@@ -1,6 +1,0 @@
-pub mod ByteOrder
-pub mod Choices
-pub mod Existence
-pub mod Places
-pub mod Scripts
-pub mod Printed

@@ -1,4 +1,0 @@
-pub mod Lines
-pub mod CutLaws
-pub mod Unfinished
-pub mod Ranks

@@ -1,4 +1,0 @@
-pub mod Codes
-pub mod Replies
-pub mod Sessions
-pub mod Run
