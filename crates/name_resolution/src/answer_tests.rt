@@ -59,13 +59,7 @@ impl Lookups for Refusing {
         Err(NoMemory)
     }
 
-    fn visible(
-        &self,
-        _: Global,
-        _: &View,
-        _: ElementNo,
-        _: &Name,
-    ) -> Result<Gains<Hit>, NoMemory> {
+    fn visible(&self, _: Global, _: &View, _: ElementNo, _: &Name) -> Result<Gains<Hit>, NoMemory> {
         Err(NoMemory)
     }
 }
@@ -105,7 +99,13 @@ fn asked(alloc: Global, file: u32, index: u32) -> Result<Step<LinkKey, Outcome>,
     };
     let mut looks = Looks::new(alloc);
     let mut steps = Steps::new(Counted::new());
-    rules.ask(alloc, &Table::new(alloc), LinkKey(reference), &mut looks, &mut steps)
+    rules.ask(
+        alloc,
+        &Table::new(alloc),
+        LinkKey(reference),
+        &mut looks,
+        &mut steps,
+    )
 }
 
 fn is_linked(outcome: &Outcome, file: u32) -> bool {
