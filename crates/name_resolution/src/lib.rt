@@ -2,12 +2,8 @@
 //! a qualified name finds (KerML 8.2.3.5, name resolution).
 #![tactic(auto)]
 
-#[cfg(test)]
-mod answer_tests;
 mod finding;
 mod rules;
-#[cfg(test)]
-mod sample;
 
 pub use finding::{QualifiedName, find};
 pub use rules::LinkRules;
