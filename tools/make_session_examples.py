@@ -4,14 +4,13 @@
   make_session_examples.py           writes the two files
   make_session_examples.py --check   fails where they differ from what would be written
 
-The script has the worked scripts, as far as their commands stand by now, and random books of one to four files, each
-put, checked, listed, changed and listed again. The other program stands beside the repository, in ../shared/oracle;
+The script has the worked scripts, as far as their commands stand by now, and 300 random books of one to four files, each
+put, checked and listed, a quarter of them changed in one file and checked again. The other program stands beside the repository, in ../shared/oracle;
 where it isn't, nothing is checked.
 """
 import glob
 import os
 import random
-import re
 import sys
 
 sys.dont_write_bytecode = True
