@@ -105,6 +105,7 @@ module _ {A : Type 0} where
     };
     among = λ w q m. r.among w q (to_waits w (c w).step q m);
     files = λ w q m. r.files w q (to_waits w (c w).step q m);
+    standing = r.standing;
   }
 
 pub rule_tame : (lib : Library) (k : LinkKey) → IsTame (rule lib k)

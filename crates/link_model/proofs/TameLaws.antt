@@ -7,7 +7,8 @@ use Rattle.std.specs.Prelude.{zero, suc, not, ◌||◌, ◌&&◌, nat_eq, nat_lt
 use Rattle.std.specs.List.{flat_map}
 use Rattle.std.specs.Cmp.Lexicographic.{pointwise}
 use Rattle.demand_core.proofs.ComputationLaws.{both_cases, join_cases}
-use Rattle.linker_base.proofs.MemberLaws.{member_left, member_right}
+use Rattle.linker_base.proofs.MemberLaws.{member_left, member_right, member_cases}
+use Rattle.demand_core.specs.declared.looks.Fact.{Fact}
 use Rattle.demand_core.specs.declared.looks.Fact.TheVariants.{Key, Outer}
 use Rattle.demand_core.specs.Computation.{Asked, then_step, read_step, both_step, join_step, done, read, look, ◌>>=◌, both, join, joined, IsRegular}
 use Rattle.demand_core.specs.Computed.{WaitsAmong}
@@ -58,10 +59,15 @@ Stands w q = nat_lt q.0.index (length (model_in (w.outer (File q.0.file))).refer
 abbrev pub HasFiles : {A : Type 0} → Asked LinkKey LinkFact A → Type 0
 HasFiles a = (q : LinkKey) → WaitsOn a.step q → IsMember a.looks (Outer (File q.0.file))
 
+-- each reference that was looked at stands
+abbrev pub LooksStand : LinkWorld → List (Fact LinkKey LinkFact) → Type 0
+LooksStand w looks = (q : LinkKey) → IsMember looks (Key q) → Stands w q
+
 pub record IsTame {A : Type 0} (c : Lookup A) : Type 0 where
   pub regular : IsRegular c
   pub among : (w : LinkWorld) → WaitsAmong (Stands w) (c w)
   pub files : (w : LinkWorld) → HasFiles (c w)
+  pub standing : (w : LinkWorld) → LooksStand w (c w).looks
 
 -- the files of what is waited on, by shape
 
@@ -109,19 +115,61 @@ module _ (w : LinkWorld) where
       (λ t. cond_files (list_any (same t) (a ∷ path)) (done []) (gather same links leads n (a ∷ path) t) (λ q m. absurd m)
       (gather_files same links leads h g n (a ∷ path) t)) r.onward))) ls)
 
+-- what was looked at stands, by shape
+module _ (w : LinkWorld) where
+  both_stand : (xs ys : List (Fact LinkKey LinkFact)) → LooksStand w xs → LooksStand w ys → LooksStand w (xs ++ ys)
+  both_stand xs ys h g q m = elim (member_cases xs ys (Key q) m) [ inl i ↦ h q i | inr i ↦ g q i ]
+
+  then_stand : {A B : Type 0} (a : Asked LinkKey LinkFact A) (f : A → Asked LinkKey LinkFact B) (step : Step LinkKey A) → LooksStand w a.looks
+      → ((x : A) → step ≡ Done x → LooksStand w (f x).looks) → LooksStand w (then_step a f step).looks
+  then_stand a f (Done x) h g = both_stand a.looks (f x).looks h (g x refl)
+  then_stand a f (Waits ks) h g = h
+
+  joined_stand : {A B : Type 0} (f : B → Lookup (List A)) → ((x : B) → LooksStand w (f x w).looks) → (xs : List B) → LooksStand w (joined f xs w).looks
+  joined_stand f h [] = λ q m. absurd m
+  joined_stand f h (x ∷ xs) = both_stand (f x w).looks (joined f xs w).looks (h x) (joined_stand f h xs)
+
+  cond_stand : {A : Type 0} (b : Bool) (c d : Lookup A) → LooksStand w (c w).looks → LooksStand w (d w).looks → LooksStand w (cond b c d w).looks
+  cond_stand true c d h g = h
+  cond_stand false c d h g = g
+
+  gather_stand : {A L B : Type 0} (same : A → A → Bool) (links : A → Lookup (List L)) (leads : L → Lookup (Led B A))
+      → ((a : A) → LooksStand w (links a w).looks) → ((l : L) → LooksStand w (leads l w).looks) → (n : ℕ) (path : List A) (a : A)
+      → LooksStand w (gather same links leads n path a w).looks
+  unfolding gather
+  gather_stand same links leads h g zero path a = λ q m. absurd m
+  gather_stand same links leads h g (suc n) path a =
+      then_stand (links a w) (λ ls. joined (along_links same leads (a ∷ path) (gather same links leads n (a ∷ path))) ls w) (links a w).step (h a)
+      (λ ls e. joined_stand (along_links same leads (a ∷ path) (gather same links leads n (a ∷ path))) (λ l.
+      then_stand (leads l w) (λ r. join (done r.found) (joined (beyond same (a ∷ path) (gather same links leads n (a ∷ path))) r.onward) w)
+      (leads l w).step (g l) (λ r is.
+      joined_stand (beyond same (a ∷ path) (gather same links leads n (a ∷ path)))
+      (λ t. cond_stand (list_any (same t) (a ∷ path)) (done []) (gather same links leads n (a ∷ path) t) (λ q m. absurd m)
+      (gather_stand same links leads h g n (a ∷ path) t)) r.onward)) ls)
+
 -- the parts
 
 ok : {A : Type 0} (x : A) → IsTame (done x)
-ok x = record { regular = regular_done x; among = λ w. among_done (Stands w) w x; files = λ w q m. absurd m }
+ok x = record { regular = regular_done x; among = λ w. among_done (Stands w) w x; files = λ w q m. absurd m; standing = λ w q m. absurd m }
+
+no_key : (f : LinkFact) (q : LinkKey) → IsMember {A = Fact LinkKey LinkFact} (Outer f ∷ []) (Key q) → ⊥
+no_key f q (inl e) = cc
+no_key f q (inr n) = n
 
 looked : (f : LinkFact) → IsTame (look f)
-looked f = record { regular = regular_look f; among = λ w. among_look (Stands w) w f; files = λ w q m. absurd m }
+looked f = record {
+  regular = regular_look f;
+  among = λ w. among_look (Stands w) w f;
+  files = λ w q m. absurd m;
+  standing = λ w q m. absurd (no_key f q m);
+}
 
 then : {A B : Type 0} {c : Lookup A} {f : A → Lookup B} → IsTame c → ((x : A) → IsTame (f x)) → IsTame (c >>= f)
 then {c = c} {f = f} r u = record {
   regular = regular_then c f r.regular (λ x. (u x).regular);
   among = λ w. among_then (Stands w) w c f (r.among w) (λ x e. (u x).among w);
   files = λ w. then_files (c w) (λ x. f x w) (c w).step refl (r.files w) (λ x. (u x).files w);
+  standing = λ w. then_stand w (c w) (λ x. f x w) (c w).step (r.standing w) (λ x e. (u x).standing w);
 }
 
 united : {A B : Type 0} {f : A → Lookup (List B)} → ((x : A) → IsTame (f x)) → (xs : List A) → IsTame (joined f xs)
@@ -129,6 +177,7 @@ united {f = f} r xs = record {
   regular = regular_joined f (λ x. (r x).regular) xs;
   among = λ w. among_joined (Stands w) w f (λ x. (r x).among w) xs;
   files = λ w. joined_files w f (λ x. (r x).files w) xs;
+  standing = λ w. joined_stand w f (λ x. (r x).standing w) xs;
 }
 
 either : {A : Type 0} (b : Bool) {c d : Lookup A} → IsTame c → IsTame d → IsTame (cond b c d)
@@ -137,6 +186,7 @@ either b {c = c} {d = d} r u =
       regular = regular_cond b c d r.regular u.regular;
       among = λ w. among_cond (Stands w) w b c d (r.among w) (u.among w);
       files = λ w. cond_files w b c d (r.files w) (u.files w);
+      standing = λ w. cond_stand w b c d (r.standing w) (u.standing w);
     }
 
 beside : {A : Type 0} {c d : Lookup (List A)} → IsTame c → IsTame d → IsTame (join c d)
@@ -145,6 +195,7 @@ beside {c = c} {d = d} r u =
       regular = regular_join c d r.regular u.regular;
       among = λ w. among_join (Stands w) w c d (r.among w) (u.among w);
       files = λ w. join_files (c w) (d w) (r.files w) (u.files w);
+      standing = λ w. both_stand w (c w).looks (d w).looks (r.standing w) (u.standing w);
     }
 
 pair : {A B : Type 0} {c : Lookup A} {d : Lookup B} → IsTame c → IsTame d → IsTame (both c d)
@@ -153,6 +204,7 @@ pair {c = c} {d = d} r u =
       regular = regular_both c d r.regular u.regular;
       among = λ w. among_both (Stands w) w c d (r.among w) (u.among w);
       files = λ w. both_files (c w) (d w) (r.files w) (u.files w);
+      standing = λ w. both_stand w (c w).looks (d w).looks (r.standing w) (u.standing w);
     }
 
 followed : {A L : Type 0} (same : A → A → Bool) (links : A → Lookup (List L)) (ends : L → Lookup (List A)) → ((a : A) → IsTame (links a))
@@ -163,6 +215,8 @@ followed same links ends r u n a = record {
       (λ l. among_then (Stands w) w (ends l) (λ ts. done (record { found = ts; onward = ts })) ((u l).among w) (λ ts e q h. absurd h)) n [] a;
   files = λ w. gather_files w same links (λ l. ends l >>= λ ts. done (record { found = ts; onward = ts })) (λ b. (r b).files w)
       (λ l. then_files (ends l w) (λ ts. done (record { found = ts; onward = ts }) w) (ends l w).step refl ((u l).files w) (λ ts q m. absurd m)) n [] a;
+  standing = λ w. gather_stand w same links (λ l. ends l >>= λ ts. done (record { found = ts; onward = ts })) (λ b. (r b).standing w)
+      (λ l. then_stand w (ends l w) (λ ts. done (record { found = ts; onward = ts }) w) (ends l w).step ((u l).standing w) (λ ts e q m. absurd m)) n [] a;
 }
 
 -- readers
@@ -233,6 +287,14 @@ read_files w r true q m = by (w.table r) m
         led_done (Cyclic on) n = n
 read_files w r false q m = absurd m
 
+read_stands : (w : LinkWorld) (r : LinkKey) (b : Bool) → (b ≡ true → Stands w r) → LooksStand w (cond b (read r >>= led_to) (done []) w).looks
+read_stands w r true h = then_stand w (read r w) (λ o. led_to o w) (read r w).step own (λ o e. (led_tame o).standing w)
+  where
+    own : LooksStand w (Key r ∷ [])
+    own q (inl e) = let same : r ≡ q = cc in subst (Stands w) same (h refl)
+    own q (inr n) = absurd n
+read_stands w r false h = λ q none. absurd none
+
 pub target_tame : (r : LinkKey) → IsTame (target r)
 target_tame r = record {
   regular = regular_then (model r.0.file) (λ d. cond (nat_lt r.0.index (length d.references)) (read r >>= led_to) (done [])) (model_tame r.0.file).regular
@@ -246,6 +308,11 @@ target_tame r = record {
   files = λ w q m.
       let e : q ≡ r = read_files w r (nat_lt r.0.index (length (model_in (w.outer (File r.0.file))).references)) q m in
       inl (ap (λ k. Outer (File k.0.file)) (sym e));
+  standing = λ w. then_stand w (model r.0.file w) (λ d. cond (nat_lt r.0.index (length d.references)) (read r >>= led_to) (done []) w)
+      (model r.0.file w).step ((model_tame r.0.file).standing w)
+      (λ d e. read_stands w r (nat_lt r.0.index (length d.references)) (λ h.
+      subst (λ (x : Data). nat_lt r.0.index (length x.references) ≡ true)
+      (sym (same_inside (model_in (w.outer (File r.0.file))) d (model r.0.file w).step refl e)) h));
 }
 
 -- names

@@ -1,6 +1,6 @@
 -- What an edit of one project file may change: the file, and what stands under the names of its public root members.
 -- What looked at neither is kept, and over a new name too.
-use Rattle.std.specs.Prelude.{◌≡◌, ◌++◌, ◌∷◌, ℕ, Bool, true, false, List, [], Option, None, Some, length, map, slice_get}
+use Rattle.std.specs.Prelude.{◌≡◌, ◌⊎◌, ◌++◌, ◌∷◌, ℕ, Bool, true, false, List, [], Option, None, Some, length, map, slice_get}
 use Rattle.linker_base.specs.Members.{IsMember}
 use Rattle.demand_core.specs.Computed.{world}
 use Rattle.demand_core.specs.Least.{least}
@@ -81,3 +81,8 @@ KeepsOverArrival files s = (t u : Decided LinkKey Outcome) (k : LinkKey) → Agr
     → ((g : FileNo) → IsMember ((link_meaning files).looked t k) (Outer (File g)) → g.0 ≡ length files → ⊥)
     → rule (library_of (files ++ s ∷ [])) k (world (seen_in (files ++ s ∷ [])) u)
     ≡ rule (library_of files) k (world (seen_in files) t)
+
+-- the text of a project file came: the file had none before, or is new
+abbrev pub HasCome : List StoredFile → List StoredFile → FileNo → Type 0
+HasCome before now file = (s : StoredFile) × (slice_get now file.0 ≡ Some s) × (s.library ≡ false)
+    × ((before ≡ with_model now file.0 None) ⊎ ((now ≡ before ++ s ∷ []) × (file.0 ≡ length before)))
