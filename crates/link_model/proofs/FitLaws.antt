@@ -46,7 +46,7 @@ use Rattle.link_model.specs.Inheritance.{Candidate, Redefines, Removal, candidat
 use Rattle.link_model.specs.Imports.{owns, owning_hit, last_written, under_name, narrowed, brought, import_tier, in_owned, inside, own_tiers, visible_from, visible}
 use Rattle.link_model.specs.Lexical.{Ranked, ranked_by, is_before, lesser, least_of, ranked_hits, Picked, picked_with, picked_from, pick, outward, member_hit, project_tier, library_tier, imports_of_all, imports_before, tiers, last_tiers, lexical}
 use Rattle.link_model.specs.Lexical.Picked.{Nothing, One, Several}
-use Rattle.link_model.specs.Asking.{is_library, Course, behind, unseen, hidden_by, linked_with, linked, outcome_of, met, in_model, nothing_visible, later, along, from_owner, from_body, start, first_tiers, course_from, course, ask}
+use Rattle.link_model.specs.Asking.{is_library, Course, behind, unseen, hidden_by, linked_with, linked, outcome_of, met, in_model, nothing_visible, later, along, from_owner, from_body, start, first_tiers, course_from, course, ask, find_by}
 use Rattle.link_model.specs.Asking.Course.{Reached, Ended}
 use Rattle.link_model.specs.Linking.{sorted_step, rule, ElementStands, MemberStands, Fits}
 
@@ -660,3 +660,9 @@ module _ (files : List StoredFile) (are : AreFiles files) (s : Decided LinkKey O
 
     pub gives_rule : (k : LinkKey) → Gives here (Fits files) (rule lib k)
     gives_rule k = record { given = λ o e. (gives_ask k.0).given o (sorted_by (ask lib k.0 here).step o e) }
+
+    pub gives_find : (path : List (List ℕ)) → Gives here (Fits files) (find_by lib path)
+    gives_find [] = gives_done here (Fits files) (Absent 1) tt
+    gives_find (x ∷ xs) = gives_then here (along lib (last_tiers lib false x) xs) (λ c. done (outcome_of (suc (length xs)) c))
+        (gives_along (last_tiers lib false x) (gives_last false x) xs)
+        (λ c p. gives_done here (Fits files) (outcome_of (suc (length xs)) c) (outcome_stands (suc (length xs)) c p))
