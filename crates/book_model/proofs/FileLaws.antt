@@ -1,5 +1,5 @@
 -- A book has one list of files at most, in which its texts are found.
-use Rattle.std.proofs.Common.{◌≡◌, ◌∙◌, ℕ, suc, Bool, true, false, cond, not, ◌&&◌, List, [], ◌∷◌, ◌++◌, refl, sym, ap}
+use Rattle.std.proofs.Common.{◌≡◌, ◌∙◌, ℕ, suc, Bool, true, false, cond, not, ◌&&◌, List, [], ◌∷◌, ◌++◌, refl, sym, ap, subst}
 use Rattle.std.specs.Prelude.{Option, Some, None, nat_eq, map}
 use Rattle.std.specs.Option.{option_map, option_map_or}
 use Rattle.std.specs.Map.{lookup}
@@ -9,8 +9,9 @@ use Rattle.element_store.specs.declared.outcome.Language.{Language}
 use Rattle.book_model.specs.Book.{Book, text_in}
 use Rattle.book_model.specs.Readings.{Reading}
 use Rattle.book_model.specs.Files.{LibraryTexts, Entry, entries_of, Content, ProjectFile, IsContentOf, IsFileOf, AreFilesFrom, AreFilesOf, content_under}
-use Rattle.book_model.specs.Answers.{Command, book_after, answer_of, IsAnswer, AreAnswers}
+use Rattle.book_model.specs.Answers.{Command, book_after, Answers, IsAnswer, AreAnswers, find_answer}
 use Rattle.book_model.specs.Laws.{OneReading, HasOneOutcome}
+use Rattle.book_model.proofs.AskedLaws.{one_asked}
 
 -- what is known of texts, as one fact of readings
 pub one_reading : HasOneOutcome → OneReading
@@ -57,11 +58,21 @@ pub one_files : OneReading → (book : Book) (library : LibraryTexts) (fs gs : L
     → fs ≡ gs
 one_files h book library fs gs p q = one_list h 0 (entries_of book library) fs gs p q
 
--- so a command has one answer, and commands have one list of answers
+-- over the same files a command has one answer
+one_answer_by : (book : Book) (files : List ProjectFile) (c : Command) (a b : List ℕ) → Answers book files c a → Answers book files c b → a ≡ b
+one_answer_by book files (Command.Put name text) a b p q = p ∙ sym q
+one_answer_by book files (Command.Drop name) a b p q = p ∙ sym q
+one_answer_by book files (Command.Links name) a b p q = p ∙ sym q
+one_answer_by book files Command.Check a b p q = p ∙ sym q
+one_answer_by book files (Command.Find words) a b (n, asked, is) (m, asked', is') =
+    is ∙ (ap (find_answer files) (one_asked words n m asked asked') ∙ sym is')
+
+-- so it has one answer, and commands have one list of answers
 pub one_answer : OneReading → (library : LibraryTexts) (book : Book) (c : Command) (a b : List ℕ) → IsAnswer library book c a → IsAnswer library book c b
     → a ≡ b
 one_answer h library book c a b p q =
-    p.stands ∙ (ap (λ files. answer_of book files c) (one_files h (book_after book c) library p.files q.files p.are q.are) ∙ sym q.stands)
+    one_answer_by book q.files c a b
+    (subst (λ (files : List ProjectFile). Answers book files c a) (one_files h (book_after book c) library p.files q.files p.are q.are) p.stands) q.stands
 
 -- and commands one list of answers
 pub one_answers : OneReading → (library : LibraryTexts) (book : Book) (cs : List Command) (a b : List ℕ) → AreAnswers library book cs a

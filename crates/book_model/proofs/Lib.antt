@@ -1,6 +1,8 @@
+pub mod AskedLaws
 pub mod ChangeLaws
 pub mod EditLaws
 pub mod FileLaws
+pub mod FoundLaws
 pub mod LabelLaws
 pub mod LiveLaws
 pub mod OutcomeLaws

@@ -64,7 +64,7 @@ key_live files r m =
     (there.1, subst (λ k. model_of (stored files) k ≡ Some there.1) number there.3, there.4)
 
 -- what a decided outcome names stands
-fits_live : (files : List ProjectFile) (o : Outcome) → Fits (stored files) o → NamesLive files o
+pub fits_live : (files : List ProjectFile) (o : Outcome) → Fits (stored files) o → NamesLive files o
 fits_live files (Linked steps e) (all, (d, has, lt, own)) = (d, has, lt)
 fits_live files (Absent segment) h = tt
 fits_live files (Ambiguous segment a b) h = h

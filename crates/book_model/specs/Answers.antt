@@ -3,23 +3,29 @@ use Rattle.std.specs.Prelude.{◌≡◌, ℕ, ◌+◌, List, [], ◌∷◌, ◌+
 use Rattle.std.specs.Fmt.{decimal}
 use Rattle.std.specs.List.{flat_map}
 use Rattle.std.specs.Option.{option_map_or}
+use Rattle.element_store.specs.declared.outcome.Language.TheVariants.{Sysml}
+use Rattle.book_model.specs.declared.asked_name.AskedName.{AskedName}
 use Rattle.book_model.specs.declared.edit.Edit.{Edit}
 use Rattle.book_model.specs.declared.edit.Edit.TheVariants as edit
 use Rattle.book_model.specs.declared.rows.LinkRow.{LinkRow}
 use Rattle.book_model.specs.declared.rows.FaultRow.{FaultRow}
 use Rattle.book_model.specs.declared.rows.FileReport.{FileReport}
 use Rattle.book_model.specs.declared.rows.FileReport.TheVariants.{In, Refused}
+use Rattle.book_model.specs.AskedNames.{AskFor}
 use Rattle.book_model.specs.Book.{Book, text_in, edited, left_by, number_of}
 use Rattle.book_model.specs.Files.{LibraryTexts, ProjectFile, AreFilesOf}
-use Rattle.book_model.specs.Queries.{file_query, links_query, reports, faults_query}
-use Rattle.book_model.specs.Printed.{report_text, row_text, fault_row_text}
+use Rattle.book_model.specs.Queries.{file_query, links_query, reports, faults_query, find_query}
+use Rattle.book_model.specs.Printed.{report_text, row_text, fault_row_text, outcome_text}
+use Rattle.book_model.specs.Spelling.{written_name}
 
--- put a text under a name; drop the text under a name; list the links of a file; list what is wrong with all files
+-- put a text under a name; drop the text under a name; list the links of a file; list what is wrong with all files;
+-- find the qualified name that words ask for
 pub data Command : Type 0 where
   Put : (name text : List ℕ) → Command
   Drop : (name : List ℕ) → Command
   Links : (name : List ℕ) → Command
   Check : Command
+  Find : (words : List ℕ) → Command
 
 -- the edit of a command, if it has one
 abbrev pub edit_of : Command → Option Edit
@@ -72,18 +78,27 @@ check_answer files present rows =
     ++ codes "check files " ++ decimal (length present) ++ codes " references " ++ decimal (references_in present)
     ++ codes " faults " ++ decimal (length rows) ++ codes "\n"
 
+-- FIND. The name as it is spelt in SysML, and what it finds; or that the words are no name.
+abbrev pub find_answer : List ProjectFile → Option AskedName → List ℕ
+find_answer files None = codes "find bad name\n"
+find_answer files (Some name) =
+    codes "find " ++ written_name Sysml name.absolute name.path [] ++ codes " -> "
+    ++ outcome_text files (find_query files name.path) ++ codes "\n"
+
 -- THE ANSWER of a command over a book, by the files of the book that it leaves
-abbrev pub answer_of : Book → List ProjectFile → Command → List ℕ
-answer_of book files (Command.Put name text) = put_answer name (file_query files name)
-answer_of book files (Command.Drop name) = drop_answer name (text_in book name)
-answer_of book files (Command.Links name) = links_answer files name (links_query files name)
-answer_of book files Command.Check = check_answer files (reports files) (faults_query files)
+abbrev pub Answers : Book → List ProjectFile → Command → List ℕ → Type 0
+Answers book files (Command.Put name text) answer = answer ≡ put_answer name (file_query files name)
+Answers book files (Command.Drop name) answer = answer ≡ drop_answer name (text_in book name)
+Answers book files (Command.Links name) answer = answer ≡ links_answer files name (links_query files name)
+Answers book files Command.Check answer = answer ≡ check_answer files (reports files) (faults_query files)
+Answers book files (Command.Find words) answer =
+    (name : Option AskedName) × AskFor words name × (answer ≡ find_answer files name)
 
 -- the answer of a command over a library, whatever files the book has
 pub record IsAnswer (library : LibraryTexts) (book : Book) (c : Command) (answer : List ℕ) : Type 0 where
   pub files : List ProjectFile
   pub are : AreFilesOf (book_after book c) library files
-  pub stands : answer ≡ answer_of book files c
+  pub stands : Answers book files c answer
 
 -- the answers of commands, one after the other, each over the book that those before it leave
 abbrev pub AreAnswers : LibraryTexts → Book → List Command → List ℕ → Type 0

@@ -1,4 +1,5 @@
 pub mod Answers
+pub mod AskedNames
 pub mod Book
 pub mod Files
 pub mod Labels

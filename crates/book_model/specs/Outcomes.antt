@@ -1,5 +1,5 @@
 -- What became of each reference, by the least linking of the files.
-use Rattle.std.specs.Prelude.{◌≡◌, ◌⊎◌, List, Option, Some, None}
+use Rattle.std.specs.Prelude.{◌≡◌, ◌⊎◌, ℕ, List, Option, Some, None}
 use Rattle.linker_base.specs.Members.{IsMember}
 use Rattle.element_store.specs.declared.numbers.RefNo.{RefNo}
 use Rattle.element_store.specs.declared.outcome.Outcome.{Outcome}
@@ -9,7 +9,7 @@ use Rattle.demand_core.specs.Least.{least, cyclic_on}
 use Rattle.demand_core.specs.Rules.{IsLeastWait}
 use Rattle.link_model.specs.declared.keys.LinkKey.{LinkKey}
 use Rattle.link_model.specs.Keys.{same_key}
-use Rattle.link_model.specs.Linking.{ComesBefore, Fits, link_meaning}
+use Rattle.link_model.specs.Linking.{ComesBefore, Fits, find, link_meaning}
 use Rattle.link_model.specs.Outside.{keys_of}
 
 -- what is decided, or else that the reference is cyclic, on the least one on which it waits; a reference that doesn't
@@ -24,6 +24,10 @@ abbrev pub outcome_of : List StoredFile → RefNo → Outcome
 outcome_of files r =
     let key : LinkKey = record { 0 = r } in
     outcome_by (least same_key (link_meaning files) key) (cyclic_on same_key (link_meaning files) key)
+
+-- THE OUTCOME of a qualified name that is asked for from outside, over the least linking
+abbrev pub found_of : List StoredFile → List (List ℕ) → Outcome
+found_of files path = find files (least same_key (link_meaning files)) path
 
 -- the outcome is decided by the least linking, and names what stands
 pub record IsDecided (files : List StoredFile) (r : RefNo) (o : Outcome) : Type 0 where

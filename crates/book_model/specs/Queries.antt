@@ -6,6 +6,7 @@ use Rattle.element_store.specs.declared.numbers.FileNo.{FileNo}
 use Rattle.element_store.specs.declared.numbers.ElementNo.{ElementNo}
 use Rattle.element_store.specs.declared.numbers.MemberNo.{MemberNo}
 use Rattle.element_store.specs.declared.numbers.RefNo.{RefNo}
+use Rattle.element_store.specs.declared.outcome.Outcome.{Outcome}
 use Rattle.element_store.specs.declared.records.Reference.{Reference}
 use Rattle.element_store.specs.Model.{Data}
 use Rattle.book_model.specs.declared.rows.Place.{Place}
@@ -14,7 +15,7 @@ use Rattle.book_model.specs.declared.rows.FaultRow.{FaultRow}
 use Rattle.book_model.specs.declared.rows.FileReport.{FileReport}
 use Rattle.book_model.specs.Files.{ProjectFile, stored, text_at, model_at, content_under, ranked}
 use Rattle.book_model.specs.Labels.{label_of}
-use Rattle.book_model.specs.Outcomes.{outcome_of}
+use Rattle.book_model.specs.Outcomes.{outcome_of, found_of}
 use Rattle.book_model.specs.Places.{place_of}
 use Rattle.book_model.specs.Rows.{Outcomes, rows_of, faults_in, report_of}
 use Rattle.book_model.specs.Spelling.{written_name}
@@ -30,6 +31,10 @@ file_query files name = option_map report_of (content_under files name)
 -- the rows of that file
 abbrev pub links_query : List ProjectFile → List ℕ → Option (List LinkRow)
 links_query files name = option_map (rows_of (links_over files)) (content_under files name)
+
+-- FIND: what becomes of a qualified name that is asked for from outside
+abbrev pub find_query : List ProjectFile → List (List ℕ) → Outcome
+find_query files path = found_of (stored files) path
 
 -- NAMES, REPORTS and FAULTS of the present files, in byte order of their names: the names
 abbrev pub names_query : List ProjectFile → List (List ℕ)

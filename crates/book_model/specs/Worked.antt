@@ -5,7 +5,7 @@
 --   c.sysml  part p : ;
 --   a.sysml  part def V { part engine; }
 --            part def 'C c' :> V { part :>> engine; }
-use Rattle.std.specs.Prelude.{◌≡◌, ℕ, true, false, List, [], ◌∷◌, ◌++◌, Some, None, codes, refl}
+use Rattle.std.specs.Prelude.{◌≡◌, ℕ, Bool, true, false, List, [], ◌∷◌, ◌++◌, Some, None, codes, refl}
 use Rattle.std.specs.Fmt.{digits}
 use Rattle.demand_core.specs.Least.{least, stage}
 use Rattle.demand_core.specs.Gather.{gather}
@@ -20,7 +20,11 @@ use Rattle.link_model.specs.Names.{names_from}
 use Rattle.link_model.specs.Imports.{visible_from}
 use Rattle.link_model.specs.Written.{alias, brings, data_of, thing, nameless, owned, owned_as, refers}
 use Rattle.element_store.specs.declared.kind.Visibility.TheVariants.{Private, Public}
+use Rattle.token_core.specs.declared.token.Token.{Token}
+use Rattle.token_core.specs.declared.token.TokenKind.TheVariants.{Name, Sign}
+use Rattle.book_model.specs.declared.asked_name.AskedName.{AskedName}
 use Rattle.book_model.specs.declared.edit.Edit.TheVariants as edit
+use Rattle.book_model.specs.AskedNames.{name_by}
 use Rattle.book_model.specs.Book.{Book, Edited, edited}
 use Rattle.book_model.specs.Readings.{Reading}
 use Rattle.book_model.specs.Files.{ProjectFile}
@@ -29,7 +33,7 @@ use Rattle.book_model.specs.Labels.{label_of}
 use Rattle.book_model.specs.Printed.{place_text}
 use Rattle.book_model.specs.Places.{place_of}
 use Rattle.book_model.specs.Spelling.{written_name}
-use Rattle.book_model.specs.Answers.{Command, answer_of, book_after}
+use Rattle.book_model.specs.Answers.{Command, Answers, book_after, find_answer}
 
 -- the text of the first file
 abbrev pub uses_text : List ℕ
@@ -91,40 +95,40 @@ files =
     ∷ []
 
 -- shown: a quoted name, a chain to a nested element without a name, and a name that nothing bears
-pub links_of_uses : answer_of book files (Command.Links (codes "b.sysml"))
-    ≡ codes "1:10 typing 'C c' -> linked a.sysml 'C c'\n"
+pub links_of_uses : Answers book files (Command.Links (codes "b.sysml")) (
+    codes "1:10 typing 'C c' -> linked a.sysml 'C c'\n"
     ++ codes "2:11 subset c.engine -> linked a.sysml 'C c'::#4\n"
     ++ codes "3:11 subset none -> absent 1\n"
-    ++ codes "links b.sysml 3\n"
+    ++ codes "links b.sysml 3\n")
 unfolding least stage gather names_from visible_from words signs digits
 links_of_uses = refl
 
 -- shown: the fault of a file and a link that is refused, in byte order of names, and the counts
-pub check_of_files : answer_of book files Command.Check
-    ≡ codes "b.sysml:3:11 subset none -> absent 1\n"
+pub check_of_files : Answers book files Command.Check (
+    codes "b.sysml:3:11 subset none -> absent 1\n"
     ++ codes "c.sysml:1:10 refused Syntax\n"
-    ++ codes "check files 3 references 5 faults 2\n"
+    ++ codes "check files 3 references 5 faults 2\n")
 unfolding least stage gather names_from visible_from words signs digits
 check_of_files = refl
 
 -- shown: a put of a text within the profile
-pub put_of_uses : answer_of [] files (Command.Put (codes "b.sysml") uses_text)
-    ≡ codes "put b.sysml elements 3 references 3\n"
+pub put_of_uses : Answers [] files (Command.Put (codes "b.sysml") uses_text)
+    (codes "put b.sysml elements 3 references 3\n")
 unfolding digits
 put_of_uses = refl
 
 -- shown: a put of a text with a fault
-pub put_of_faulty : answer_of [] files (Command.Put (codes "c.sysml") faulty_text)
-    ≡ codes "put c.sysml refused 1:10 Syntax\n"
+pub put_of_faulty : Answers [] files (Command.Put (codes "c.sysml") faulty_text)
+    (codes "put c.sysml refused 1:10 Syntax\n")
 unfolding digits
 put_of_faulty = refl
 
 -- shown: a name that isn't there
-pub links_without_file : answer_of book files (Command.Links (codes "x.sysml")) ≡ codes "links x.sysml no file\n"
+pub links_without_file : Answers book files (Command.Links (codes "x.sysml")) (codes "links x.sysml no file\n")
 links_without_file = refl
 
 -- shown: a drop of a text
-pub drop_of_file : answer_of book files (Command.Drop (codes "c.sysml")) ≡ codes "drop c.sysml done\n"
+pub drop_of_file : Answers book files (Command.Drop (codes "c.sysml")) (codes "drop c.sysml done\n")
 drop_of_file = refl
 
 -- shown: a dropped name keeps its place
@@ -201,8 +205,8 @@ circle =
     ∷ []
 
 -- shown: each is cyclic on the other
-pub links_in_circle : answer_of [] circle (Command.Links (codes "a.sysml"))
-    ≡ codes "1:13 alias b -> cyclic b.sysml:1:13\nlinks a.sysml 1\n"
+pub links_in_circle : Answers [] circle (Command.Links (codes "a.sysml")) (
+    codes "1:13 alias b -> cyclic b.sysml:1:13\nlinks a.sysml 1\n")
 unfolding least stage gather names_from visible_from words signs digits
 links_in_circle = refl
 
@@ -280,32 +284,79 @@ over_library =
     ∷ []
 
 -- shown: rows stand by place where imports are written last, though their references are numbered first
-pub links_by_place : answer_of [] over_library (Command.Links (codes "a.sysml"))
-    ≡ codes "3:23 subset x -> linked a.sysml A::x\n"
+pub links_by_place : Answers [] over_library (Command.Links (codes "a.sysml")) (
+    codes "3:23 subset x -> linked a.sysml A::x\n"
     ++ codes "3:36 subset B::x -> hidden 2 a.sysml:2:13\n"
     ++ codes "3:57 import A -> linked a.sysml A\n"
     ++ codes "3:77 import Parts -> linked $lib/Parts.sysml Parts\n"
-    ++ codes "links a.sysml 4\n"
+    ++ codes "links a.sysml 4\n")
 unfolding least stage gather names_from visible_from words signs digits
 links_by_place = refl
 
 -- shown: two roots of one name, and a name that begins at the roots of all files
-pub links_of_roots : answer_of [] over_library (Command.Links (codes "b.sysml"))
-    ≡ codes "1:11 subset C -> ambiguous 1 a.sysml:3:1 c.sysml:1:1\n"
+pub links_of_roots : Answers [] over_library (Command.Links (codes "b.sysml")) (
+    codes "1:11 subset C -> ambiguous 1 a.sysml:3:1 c.sysml:1:1\n"
     ++ codes "2:11 subset $::Parts::Part -> linked $lib/Parts.sysml Parts::Part\n"
-    ++ codes "links b.sysml 2\n"
+    ++ codes "links b.sysml 2\n")
 unfolding least stage gather names_from visible_from words signs digits
 links_of_roots = refl
 
 -- shown: what is wrong with them, and that a file of the library isn't one of the book
-pub check_over_library : answer_of [] over_library Command.Check
-    ≡ codes "a.sysml:3:36 subset B::x -> hidden 2 a.sysml:2:13\n"
+pub check_over_library : Answers [] over_library Command.Check (
+    codes "a.sysml:3:36 subset B::x -> hidden 2 a.sysml:2:13\n"
     ++ codes "b.sysml:1:11 subset C -> ambiguous 1 a.sysml:3:1 c.sysml:1:1\n"
-    ++ codes "check files 3 references 6 faults 2\n"
+    ++ codes "check files 3 references 6 faults 2\n")
 unfolding least stage gather names_from visible_from words signs digits
 check_over_library = refl
 
 -- shown: a name of the library is no name of the book
-pub library_not_listed : answer_of [] over_library (Command.Links (codes "$lib/Parts.sysml"))
-    ≡ codes "links $lib/Parts.sysml no file\n"
+pub library_not_listed : Answers [] over_library (Command.Links (codes "$lib/Parts.sysml"))
+    (codes "links $lib/Parts.sysml no file\n")
 library_not_listed = refl
+
+-- the name that a finding asks for
+abbrev asked : Bool → List (List ℕ) → AskedName
+asked absolute path = record { absolute = absolute; path = path }
+
+-- shown: a name from the roots of all files, spelt with `$::`, which leads into the library
+pub find_in_library : find_answer over_library (Some (asked true (codes "Parts" ∷ codes "Part" ∷ [])))
+    ≡ codes "find $::Parts::Part -> linked $lib/Parts.sysml Parts::Part\n"
+unfolding least stage gather names_from visible_from words signs digits
+find_in_library = refl
+
+-- shown: two roots of one name, and a name that nothing bears, spelt with quotes
+pub find_two : find_answer over_library (Some (asked false (codes "C" ∷ [])))
+    ≡ codes "find C -> ambiguous 1 a.sysml:3:1 c.sysml:1:1\n"
+unfolding least stage gather names_from visible_from words signs digits
+find_two = refl
+
+pub find_none : find_answer over_library (Some (asked false (codes "A" ∷ codes "no name" ∷ [])))
+    ≡ codes "find A::'no name' -> absent 2\n"
+unfolding least stage gather names_from visible_from words signs digits
+find_none = refl
+
+-- tokens of words
+abbrev name_at_place : ℕ → ℕ → Token
+name_at_place at upto = record { kind = Name; from = at; upto = upto }
+
+abbrev sign_at_place : ℕ → ℕ → ℕ → Token
+sign_at_place n at upto = record { kind = Sign n; from = at; upto = upto }
+
+-- shown: `$::` and two names, of which one is quoted; spaces between tokens have no effect
+pub asks_for_two : name_by (codes "$ ::A::'b c'") (sign_at_place 37 0 1 ∷ sign_at_place 13 2 4 ∷ name_at_place 4 5
+    ∷ sign_at_place 13 5 7 ∷ name_at_place 7 12 ∷ [])
+    ≡ Some (asked true (codes "A" ∷ codes "b c" ∷ []))
+unfolding signs
+asks_for_two = refl
+
+-- shown: what ends with `::`, what names nothing, and two names with nothing between them are no qualified names
+pub asks_no_end : name_by (codes "A::") (name_at_place 0 1 ∷ sign_at_place 13 1 3 ∷ []) ≡ None
+unfolding signs
+asks_no_end = refl
+
+pub asks_nothing : name_by [] [] ≡ None
+asks_nothing = refl
+
+pub asks_apart : name_by (codes "A B") (name_at_place 0 1 ∷ name_at_place 2 3 ∷ []) ≡ None
+unfolding signs
+asks_apart = refl

@@ -25,7 +25,7 @@ ghost use Rattle.book_model.specs.Laws.{IsContentUnder, IsFoundAfter, IsStoredAf
 ghost use Rattle.book_model.specs.Laws.{name_in, TextsHaveModels};
 ghost use Rattle.element_store.specs.FileNames.{is_file_name};
 ghost use Rattle.book_model.specs.Live.{IsLiveReference, NamesLive};
-ghost use Rattle.book_model.specs.Outcomes.{IsOutcome, outcome_of};
+ghost use Rattle.book_model.specs.Outcomes.{IsOutcome, found_of, outcome_of};
 ghost use Rattle.book_model.specs.Rows.{Outcomes, rising, rows_in};
 
 /// A law: an edit that is refused, or finds nothing to drop, changes nothing. Any other leaves its text
@@ -102,13 +102,15 @@ pub fn references_have_outcomes()
 {}
 
 /// A law: the keys of links are live references, and what their outcomes name is live: elements that have
-/// a label, members and references that have a place.
+/// a label, members and references that have a place. So is what a qualified name finds.
 pub fn outcomes_name_what_stands()
     ensures keys { (files : List ProjectFile) (r : RefNo)
         → IsMember (keys_of (stored files)) (record { 0 = r }) → IsLiveReference files r }
     ensures named { (files : List ProjectFile) (r : RefNo) → AreFiles (stored files)
         → IsMember (keys_of (stored files)) (record { 0 = r })
         → NamesLive files (outcome_of (stored files) r) }
+    ensures found { (files : List ProjectFile) (path : List (List ℕ)) → AreFiles (stored files)
+        → NamesLive files (found_of (stored files) path) }
 {}
 
 /// A law: the present files are ranked in byte order of their names, and where each name stands once in

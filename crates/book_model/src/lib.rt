@@ -2,14 +2,17 @@
 //! texts, places, labels, spelt names, rows and printed lines; with the types that the definitions and
 //! the project share.
 //!
-//! Read `specs/Book`, `specs/Readings`, `specs/Files`, `specs/Outcomes`, `specs/Rows`, `specs/Printed`
-//! and `specs/Answers` in this order. `specs/Worked` has evaluated examples, `laws` what holds of all.
+//! Read `specs/Book`, `specs/Readings`, `specs/Files`, `specs/Outcomes`, `specs/Rows`, `specs/Printed`,
+//! `specs/AskedNames` and `specs/Answers` in this order. `specs/Worked` has evaluated examples, `laws`
+//! what holds of all.
 #![tactic(auto)]
 
+mod asked_name;
 mod edit;
 mod laws;
 mod rows;
 
+pub use asked_name::AskedName;
 pub use edit::Edit;
 pub use laws::{
     edited_books_are_proper, edits_are_exact, edits_change_one_file, files_are_ranked,
