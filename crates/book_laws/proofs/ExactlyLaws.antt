@@ -4,6 +4,9 @@ use Rattle.std.specs.Prelude.{Option, Some, None}
 use Rattle.element_store.specs.declared.numbers.FileNo.{FileNo}
 use Rattle.element_store.specs.declared.numbers.RefNo.{RefNo}
 use Rattle.element_store.specs.declared.outcome.Language.{Language}
+use Rattle.element_store.specs.declared.outcome.Language.TheVariants.{Sysml}
+use Rattle.book_model.specs.declared.asked_name.AskedName.{AskedName}
+use Rattle.book_model.specs.AskedNames.{AskFor}
 use Rattle.element_store.specs.Condition.{IsModel}
 use Rattle.element_store.specs.Stored.{AreFiles}
 use Rattle.linker_base.specs.Members.{IsMember}
@@ -12,12 +15,14 @@ use Rattle.text_laws.proofs.BuiltModel.{built_is_model}
 use Rattle.text_laws.proofs.OutcomeLaws.{one_model, model_or_fault, one_fault}
 use Rattle.text_laws.proofs.SomeOutcome.{some_outcome}
 use Rattle.text_laws.specs.Outcomes.{HasOutcome}
-use Rattle.book_model.specs.Answers.{Command, book_after, answer_of, AreAnswers}
-use Rattle.book_model.specs.Book.{Book}
+use Rattle.book_model.specs.Answers.{Command, book_after, put_answer, drop_answer, links_answer, check_answer, find_answer, Answers, AreAnswers}
+use Rattle.book_model.specs.Book.{Book, text_in}
 use Rattle.book_model.specs.Files.{LibraryTexts, Entry, entries_of, Content, ProjectFile, IsContentOf, AreFilesFrom, AreFilesOf, stored}
 use Rattle.book_model.specs.Laws.{OneReading, TextsHaveModels, IsSmall}
 use Rattle.book_model.specs.Outcomes.{IsOutcome, outcome_of}
+use Rattle.book_model.specs.Queries.{file_query, links_query, reports, faults_query}
 use Rattle.book_model.specs.Readings.{Reading, IsReading, language_of}
+use Rattle.book_model.proofs.AskedLaws.{some_asked}
 use Rattle.book_model.proofs.FileLaws.{one_reading, one_files, one_answers}
 use Rattle.book_model.proofs.OutcomeLaws.{outcome_is}
 use Rattle.book_model.proofs.StoredLaws.{stored_are_files}
@@ -53,14 +58,29 @@ files_once book library =
     let some = files_from 0 (entries_of book library) in
     record { files = some.0; are = some.1; alone = λ others are. one_files read_once book library others some.0 are some.1 }
 
+-- words ask for something, or for nothing
+asked_from : (words : List ℕ) → (name : Option AskedName) × AskFor words name
+asked_from words =
+    let read = reading_by (record { 0 = 0 }) Sysml words (some_outcome (record { 0 = 0 }) Sysml words) in
+    some_asked (record { 0 = 0 }) words read.0 read.1
+
+-- over its files a command has an answer
+answer_by : (book : Book) (files : List ProjectFile) (c : Command) → (answer : List ℕ) × Answers book files c answer
+answer_by book files (Command.Put name text) = (put_answer name (file_query files name), refl)
+answer_by book files (Command.Drop name) = (drop_answer name (text_in book name), refl)
+answer_by book files (Command.Links name) = (links_answer files name (links_query files name), refl)
+answer_by book files Command.Check = (check_answer files (reports files) (faults_query files), refl)
+answer_by book files (Command.Find words) = let name = asked_from words in (find_answer files name.0, (name.0, name.1, refl))
+
 -- each command has an answer
 answers_from : (library : LibraryTexts) (book : Book) (cs : List Command) → (answers : List ℕ) × AreAnswers library book cs answers
 answers_from library book [] = ([], refl)
 answers_from library book (c ∷ cs) =
     let files = files_once (book_after book c) library in
-    let first = answer_of book files.files c in
+    let answer = answer_by book files.files c in
+    let first = answer.0 in
     let more = answers_from library (book_after book c) cs in
-    (first ++ more.0, (first, more.0, record { files = files.files; are = files.are; stands = refl }, more.1, refl))
+    (first ++ more.0, (first, more.0, record { files = files.files; are = files.are; stands = answer.1 }, more.1, refl))
 
 -- commands have one list of answers
 pub answers_once : (library : LibraryTexts) (book : Book) (cs : List Command) → HasOneAnswer library book cs

@@ -3,12 +3,17 @@ use Rattle.std.proofs.Common.{◌≡◌, ◌∙◌, ℕ, suc, List, [], ◌∷�
 use Rattle.std.specs.Prelude.{codes, map, Option, Some, None}
 use Rattle.element_store.specs.declared.numbers.FileNo.{FileNo}
 use Rattle.element_store.specs.declared.outcome.Language.{Language}
+use Rattle.element_store.specs.declared.outcome.Language.TheVariants.{Sysml}
+use Rattle.book_model.specs.declared.asked_name.AskedName.{AskedName}
+use Rattle.book_model.specs.AskedNames.{AskFor}
 use Rattle.book_model.specs.Answers as asked
 use Rattle.book_model.specs.Answers.{Command as Asked}
-use Rattle.book_model.specs.Book.{Book}
+use Rattle.book_model.specs.Book.{Book, text_in}
 use Rattle.book_model.specs.Files.{LibraryTexts, Entry, entries_of, Content, ProjectFile, IsContentOf, AreFilesFrom}
 use Rattle.book_model.specs.Laws.{OneReading}
+use Rattle.book_model.specs.Queries.{file_query, links_query, reports, faults_query}
 use Rattle.book_model.specs.Readings.{language_of}
+use Rattle.book_model.proofs.AskedLaws.{some_asked}
 use Rattle.book_model.proofs.FileLaws as files
 use Rattle.session_course.specs.Answers.{IsAnswer, AreAnswers, SomeReading, HasAnswers}
 use Rattle.session_course.specs.Commands.{Command, book_after}
@@ -43,11 +48,25 @@ files_from h n (e ∷ es) =
     let more = files_from h (suc n) es in
     (record { name = e.name; library = e.library; content = c.0 } ∷ more.0, (record { name = refl; library = refl; content = c.1 }, more.1))
 
+-- so words ask for something, or for nothing
+asked_some : SomeReading → (words : List ℕ) → (name : Option AskedName) × AskFor words name
+asked_some h words = let read = h (record { 0 = 0 }) Sysml words in some_asked (record { 0 = 0 }) words read.0 read.1
+
+-- over its files a command has an answer
+answer_by : SomeReading → (book : Book) (files : List ProjectFile) (c : Asked) → (answer : List ℕ) × asked.Answers book files c answer
+answer_by h book files (Asked.Put name text) = (asked.put_answer name (file_query files name), refl)
+answer_by h book files (Asked.Drop name) = (asked.drop_answer name (text_in book name), refl)
+answer_by h book files (Asked.Links name) = (asked.links_answer files name (links_query files name), refl)
+answer_by h book files Asked.Check = (asked.check_answer files (reports files) (faults_query files), refl)
+answer_by h book files (Asked.Find words) =
+    let name = asked_some h words in (asked.find_answer files name.0, (name.0, name.1, refl))
+
 -- a command has an answer
 pub answer_some : SomeReading → (library : LibraryTexts) (book : Book) (c : Command) → (answer : List ℕ) × IsAnswer library book c answer
 answer_some h library book (Command.Do c) =
     let found = files_from h 0 (entries_of (asked.book_after book c) library) in
-    (asked.answer_of book found.0 c, record { files = found.0; are = found.1; stands = refl })
+    let answer = answer_by h book found.0 c in
+    (answer.0, record { files = found.0; are = found.1; stands = answer.1 })
 answer_some h library book Command.End = (codes "end\n", refl)
 
 -- and so have commands one after the other

@@ -122,6 +122,19 @@ links_says name = elim (bool_cases (is_file_name name)) [
   | inr bad ↦ inr (λ c form e. links_none c name bad form (word_in c (codes "links " ++ name) e) e)
 ]
 
+-- any words without LF follow `find `
+find_none : (c : Command) (words : List ℕ) → IsMember words 10 → HasForm c → word_of c ≡ 26217 → line_of c ≡ codes "find " ++ words → ⊥
+find_none (Command.Do (Asked.Find other)) words feed form word e =
+    let same : other ≡ words = cc in form (subst (λ xs. IsMember xs 10) (sym same) feed)
+find_none c words feed form word e = omega (arith, word)
+
+find_says : (words : List ℕ) → Says (codes "find " ++ words) ⊎ SaysNothing (codes "find " ++ words)
+find_says words = elim (part_at 10 words) [
+  | inl p ↦ inr (λ c form e. find_none c words (subst (λ xs. IsMember xs 10) (sym p.stands) (member_right p.front (10 ∷ p.back) 10 (inl refl))) form
+      (word_in c (codes "find " ++ words) e) e)
+  | inr free ↦ inl (record { command = Command.Do (Asked.Find words); form = free; stands = refl })
+]
+
 -- the words after `put ` are the name, a space and the number
 put_words : (words before after name text : List ℕ) → words ≡ before ++ 32 ∷ after → (IsMember before 32 → ⊥) → HasForm (put name text)
     → line_of (put name text) ≡ codes "put " ++ words → (name ≡ before) × (decimal (length text) ≡ after)
@@ -184,6 +197,7 @@ pub record IsOther (line : List ℕ) : Type 0 where
   pub no_check : bytes_eq line (codes "check") ≡ false
   pub no_drop : bytes_eq (take 5 line) (codes "drop ") ≡ false
   pub no_links : bytes_eq (take 6 line) (codes "links ") ≡ false
+  pub no_find : bytes_eq (take 5 line) (codes "find ") ≡ false
   pub no_put : bytes_eq (take 4 line) (codes "put ") ≡ false
 
 -- the line is another one
@@ -197,6 +211,7 @@ other_none line o (Command.Do (Asked.Put name text)) form e =
 other_none line o (Command.Do (Asked.Drop name)) form e = prefix_lacks line (codes "drop ") name o.no_drop e
 other_none line o (Command.Do (Asked.Links name)) form e = prefix_lacks line (codes "links ") name o.no_links e
 other_none line o (Command.Do Asked.Check) form e = not_bare line (codes "check") o.no_check e
+other_none line o (Command.Do (Asked.Find words)) form e = prefix_lacks line (codes "find ") words o.no_find e
 other_none line o Command.End form e = not_bare line (codes "end") o.no_end e
 
 -- each line is that of a command, or of none
@@ -209,10 +224,19 @@ says_of line = elim (bool_cases (bytes_eq line (codes "end"))) [
       | inl d ↦ subst (λ l. Says l ⊎ SaysNothing l) (prefix_stands line (codes "drop ") d) (drop_says (drop 5 line))
       | inr no_drop ↦ elim (bool_cases (bytes_eq (take 6 line) (codes "links "))) [
         | inl l ↦ subst (λ l. Says l ⊎ SaysNothing l) (prefix_stands line (codes "links ") l) (links_says (drop 6 line))
-        | inr no_links ↦ elim (bool_cases (bytes_eq (take 4 line) (codes "put "))) [
-          | inl p ↦ subst (λ l. Says l ⊎ SaysNothing l) (prefix_stands line (codes "put ") p) (put_says (drop 4 line))
-          | inr no_put ↦ inr (other_none line
-              (record { no_end = no_end; no_check = no_check; no_drop = no_drop; no_links = no_links; no_put = no_put }))
+        | inr no_links ↦ elim (bool_cases (bytes_eq (take 5 line) (codes "find "))) [
+          | inl f ↦ subst (λ l. Says l ⊎ SaysNothing l) (prefix_stands line (codes "find ") f) (find_says (drop 5 line))
+          | inr no_find ↦ elim (bool_cases (bytes_eq (take 4 line) (codes "put "))) [
+            | inl p ↦ subst (λ l. Says l ⊎ SaysNothing l) (prefix_stands line (codes "put ") p) (put_says (drop 4 line))
+            | inr no_put ↦ inr (other_none line (record {
+              no_end = no_end;
+              no_check = no_check;
+              no_drop = no_drop;
+              no_links = no_links;
+              no_find = no_find;
+              no_put = no_put;
+            }))
+          ]
         ]
       ]
     ]

@@ -2,6 +2,7 @@
 use Rattle.std.specs.Prelude.{◌≡◌, ℕ, ◌^◌, ◌<◌, ◌≤◌, nat_lt, cond, true, List, [], ◌++◌, length, codes, Option, Some, None}
 use Rattle.std.specs.Fmt.{decimal}
 use Rattle.linker_base.specs.declared.limits.TheConstants.{FILE_BYTES, LINE_BYTES}
+use Rattle.linker_base.specs.Members.{IsMember}
 use Rattle.element_store.specs.FileNames.{is_file_name}
 use Rattle.book_model.specs.Answers.{Command as Asked}
 use Rattle.book_model.specs.Answers as asked
@@ -16,10 +17,9 @@ abbrev pub put : List ℕ → List ℕ → Command
 put name text = Command.Do (Asked.Put name text)
 
 -- A further command adds a case to the six definitions from here to `done_before`, and its answer to those of the
--- book; no other definition changes. So `find QNAME` would add, in words that hold no LF,
---   line_of (Command.Do (Asked.Find words)) = codes "find " ++ words
--- and `make SEED COUNT`, which stands for COUNT puts, would have the limit of COUNT in `limit_passed`, the number of
--- its first refused put in `refusal_of`, and the puts before that one in `done_before`.
+-- book; no other definition changes. So `make SEED COUNT`, which stands for COUNT puts, would have the limit of COUNT
+-- in `limit_passed`, the number of its first refused put in `refusal_of`, and the puts before that one in
+-- `done_before`.
 
 -- the line of a command, without its LF
 abbrev pub line_of : Command → List ℕ
@@ -27,6 +27,7 @@ line_of (Command.Do (Asked.Put name text)) = codes "put " ++ name ++ codes " " +
 line_of (Command.Do (Asked.Drop name)) = codes "drop " ++ name
 line_of (Command.Do (Asked.Links name)) = codes "links " ++ name
 line_of (Command.Do Asked.Check) = codes "check"
+line_of (Command.Do (Asked.Find words)) = codes "find " ++ words
 line_of Command.End = codes "end"
 
 -- what follows the LF of the line: the bytes of a put and their LF
@@ -35,14 +36,17 @@ body_of (Command.Do (Asked.Put name text)) = text ++ codes "\n"
 body_of (Command.Do (Asked.Drop name)) = []
 body_of (Command.Do (Asked.Links name)) = []
 body_of (Command.Do Asked.Check) = []
+body_of (Command.Do (Asked.Find words)) = []
 body_of Command.End = []
 
--- the command has a form: its name is that of a file of either language, its number has at most 10 digits
+-- the command has a form: its name is that of a file of either language, its number has at most 10 digits, its words
+-- hold no LF
 abbrev pub HasForm : Command → Type 0
 HasForm (Command.Do (Asked.Put name text)) = (is_file_name name ≡ true) × (length text < 10 ^ 10)
 HasForm (Command.Do (Asked.Drop name)) = is_file_name name ≡ true
 HasForm (Command.Do (Asked.Links name)) = is_file_name name ≡ true
 HasForm (Command.Do Asked.Check) = Unit {0}
+HasForm (Command.Do (Asked.Find words)) = IsMember words 10 → ⊥
 HasForm Command.End = Unit {0}
 
 -- the limit that the number of a command passes
@@ -51,6 +55,7 @@ limit_passed (Command.Do (Asked.Put name text)) = cond (nat_lt FILE_BYTES (lengt
 limit_passed (Command.Do (Asked.Drop name)) = None
 limit_passed (Command.Do (Asked.Links name)) = None
 limit_passed (Command.Do Asked.Check) = None
+limit_passed (Command.Do (Asked.Find words)) = None
 limit_passed Command.End = None
 
 -- the number with which the edit of a command is refused over the book
