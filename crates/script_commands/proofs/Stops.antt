@@ -6,6 +6,7 @@ use Rattle.std.proofs.lemmas.List.{length-replicate, length-take-le}
 use Rattle.std.specs.Prelude.{codes, cond, nat_lt, Option, Some, None, Result, Ok, Err}
 use Rattle.linker_base.specs.declared.limits.TheConstants.{FILE_BYTES, INPUT_BYTES, LINE_BYTES}
 use Rattle.linker_base.specs.Members.{IsMember}
+use Rattle.linker_base.proofs.MemberLaws.{member_right}
 use Rattle.session_course.specs.Commands.{put, line_of}
 use Rattle.session_course.specs.Refusals.{IsUnfinished}
 use Rattle.session_course.proofs.CutLaws.{feed_not_end}
@@ -14,7 +15,7 @@ use Rattle.session_course.proofs.Lines.{same_front}
 use Rattle.script_commands.specs.Lines.{IsHeading}
 use Rattle.script_commands.specs.Reading.{Window, HasTaken, HasUsed, IsBeyond, HasLine, IsFilled, IsLined, HasMoved, IsShort, IsText, IsClosed, IsBody, HasHeading, IsHeaded, IsBareEnd, IsGood, IsNext}
 use Rattle.script_commands.specs.declared.command.Command.{Command}
-use Rattle.script_commands.specs.declared.command.Command.TheVariants.{Put}
+use Rattle.script_commands.specs.declared.command.Command.TheVariants.{Put, Find}
 use Rattle.script_commands.specs.declared.command.ReadStop.{ReadStop}
 use Rattle.script_commands.specs.declared.command.ReadStop.TheVariants.{LongLine, NoForm, LongText, NoLineFeed, LongInput, CutShort, ReadFault, NoMemory}
 use Rattle.script_commands.specs.declared.line.Heading.{Heading}
@@ -163,6 +164,7 @@ line_said w0 w1 w2 left now n line h a is says after = taken_so w0 left now _ _ 
     record {
       line = line;
       says = says;
+      free = λ m. has.free (subst (λ bs. IsMember bs 10) same m);
       short = omega (arith, size, has.short);
       used = record {
         stands = has.stands
@@ -291,6 +293,20 @@ put_refused w0 w1 w2 left now later name count stop a b =
     by LongLine seen place k = absurd k
     by NoForm seen place k = absurd k
     by LongText seen place k = absurd k
+
+-- a finding was read
+pub find_read : (w0 w1 : Window) (left now : Option (List ℕ)) (words : List ℕ) → HasTaken w0 left now (IsHeaded w0 w1 now (Ok (heading.Find words)))
+    → HasTaken w0 left now (IsNext w0 w1 now (Ok (Find words)))
+find_read w0 w1 left now words a = taken_so w0 left now _ _ a (λ seen h.
+    let spelt : h.line ++ codes "\n" ≡ (codes "find " ++ words) ++ codes "\n" ++ [] =
+    ap (λ l. l ++ codes "\n") h.says ∙ sym (append-nil ((codes "find " ++ words) ++ codes "\n")) in (
+      record {
+        form = λ m. h.free (subst (λ l. IsMember l 10) (sym h.says) (member_right (codes "find ") words 10 m));
+        short = subst (λ l. length l ≤ LINE_BYTES) h.says h.short;
+        size = refl;
+      },
+      inl (subst (λ bs. HasUsed w0 w1 bs seen) spelt h.used),
+    ))
 
 -- where the input ended, `end` was read without its LF, or something else is pending
 pub bare_read : (w0 w1 w2 : Window) (left now : Option (List ℕ)) (result : Result Command ReadStop)

@@ -117,6 +117,7 @@ IsLined before after left (Err other) seen = ⊥
 pub record HasHeading (before after : Window) (h : Heading) (seen : List ℕ) : Type 0 where
   pub line : List ℕ
   pub says : IsHeading line (Ok h)
+  pub free : IsMember line 10 → ⊥
   pub short : length line ≤ LINE_BYTES
   pub used : HasUsed before after (line ++ codes "\n") seen
 

@@ -4,7 +4,7 @@ use element_store::{FileName, Text};
 use std::alloc::AllocError;
 
 /// A command of a script, with its form checked: its name is that of a file of either language, its text is
-/// within the limit of a file.
+/// within the limit of a file, its words hold no LF.
 #[derive(Drop)]
 pub enum Command {
     /// Put a text under a name.
@@ -15,6 +15,8 @@ pub enum Command {
     Links { name: FileName },
     /// List what is wrong with all files.
     Check,
+    /// Find the qualified name that these words are, if they are one.
+    Find { words: Text },
     /// End the session.
     End,
 }

@@ -2,7 +2,7 @@ ghost use Rattle.std.specs.Prelude.{◌≡◌, ◌++◌, codes};
 ghost use Rattle.script_commands.specs.Lines.{IsPlaceOf, IsNumber, IsNamed, IsHeading};
 
 use crate::command::ReadStop;
-use element_store::{FileName, NameFault};
+use element_store::{FileName, NameFault, Text};
 use itoa::Buffer;
 use linker_base::limits::FILE_BYTES;
 use memchr::memchr;
@@ -19,6 +19,7 @@ pub(crate) enum Heading {
     Drop { name: FileName },
     Links { name: FileName },
     Check,
+    Find { words: Text },
     End,
 }
 
@@ -97,6 +98,18 @@ fn read_links(alloc: Global, name: &[u8]) -> Result<Heading, ReadStop>
     }
 }
 
+/// Reads what follows `find `: any words.
+fn read_find(alloc: Global, words: &[u8]) -> Result<Heading, ReadStop>
+    ensures { IsHeading (codes "find " ++ words.now) result }
+{
+    match Vec::from_slice(alloc, words) {
+        Ok(words) => Ok(Heading::Find {
+            words: Text::of(words),
+        }),
+        Err(_) => Err(ReadStop::NoMemory),
+    }
+}
+
 /// Reads a line, without its LF. `NoForm` comes exactly where no command has this line, `LongText` exactly
 /// where it is that of a put whose text would pass the limit of a file.
 pub(crate) fn read_heading(alloc: Global, line: &[u8]) -> Result<Heading, ReadStop>
@@ -113,6 +126,9 @@ pub(crate) fn read_heading(alloc: Global, line: &[u8]) -> Result<Heading, ReadSt
     }
     if let Some(name) = line.strip_prefix(b"links ") {
         return read_links(alloc, name);
+    }
+    if let Some(words) = line.strip_prefix(b"find ") {
+        return read_find(alloc, words);
     }
     match line.strip_prefix(b"put ") {
         Some(words) => read_put(alloc, words),

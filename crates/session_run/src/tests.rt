@@ -69,6 +69,10 @@ impl Answering for Bare {
     fn check<K: Sink>(&mut self, output: &mut K) -> Result<(), AnswerFault> {
         give_piece(output, b"check files 0 references 0 faults 0\n")
     }
+
+    fn find<K: Sink>(&mut self, _words: &Text, _output: &mut K) -> Result<(), AnswerFault> {
+        Err(AnswerFault::NoMemory)
+    }
 }
 
 impl Opening for Bare {

@@ -2,7 +2,7 @@
 use Rattle.std.proofs.Common.{◌≡◌, ℕ, List, [], refl, subst, sym, inl}
 use Rattle.std.specs.Fmt.{digits}
 use Rattle.std.specs.Prelude.{codes, false, None, Result, Ok, Err}
-use Rattle.book_model.specs.Answers.{Command as Asked, answer_of, refusal_of, book_after, IsAnswer}
+use Rattle.book_model.specs.Answers.{Command as Asked, Answers, refusal_of, book_after, IsAnswer}
 use Rattle.book_model.specs.Book.{Book}
 use Rattle.book_model.specs.Files.{AreFilesOf}
 use Rattle.session_streams.specs.Moves.{Stream, Move, moved}
@@ -17,7 +17,7 @@ bare = record { library = []; book = []; broken = false }
 
 -- a command that changes nothing was answered
 pub answered_bare : (c : Asked) (answer : List ℕ) (output : Move) (r : Result (Unit {0}) AnswerFault) → refusal_of [] c ≡ None → book_after [] c ≡ []
-    → answer ≡ answer_of [] [] c → IsGiven output answer r → IsAnswered bare bare c output r
+    → Answers [] [] c answer → IsGiven output answer r → IsAnswered bare bare c output r
 answered_bare c answer output r room same is given = by r given
   where
     is_answer : IsAnswer [] [] c answer
@@ -35,6 +35,6 @@ pub wanted_bare : (c : Asked) (a : Stream) → IsAnswered bare bare c (moved a a
 wanted_bare c a = (inl (gave_none a), refl)
 
 -- the counts of no files
-pub counts_of_none : codes "check files 0 references 0 faults 0\n" ≡ answer_of [] [] Asked.Check
+pub counts_of_none : Answers [] [] Asked.Check (codes "check files 0 references 0 faults 0\n")
 unfolding digits
 counts_of_none = refl

@@ -1,9 +1,10 @@
 -- What a project did for a command, as a session sees it.
-use Rattle.std.proofs.Common.{◌≡◌, ℕ, List, refl, sym, subst, inl, inr}
+use Rattle.std.proofs.Common.{◌≡◌, ℕ, ◌<◌, ◌^◌, ◌++◌, List, length, refl, sym, subst, arith, inl, inr, length-append}
 use Rattle.std.specs.Prelude.{codes, false, Option, Some, None, Result, Ok, Err}
 use Rattle.book_model.specs.Answers.{Command as Asked}
 use Rattle.outside_core.specs.Streams.{GivesAll}
 use Rattle.session_course.specs.Commands.{Command as Meant}
+use Rattle.script_commands.specs.Reading.{IsGood}
 use Rattle.session_streams.specs.Moves.{Move, moved, Gave, GaveFront}
 use Rattle.sysml_session.specs.Answered as asked
 use Rattle.sysml_session.specs.Answered.{Holding}
@@ -37,6 +38,11 @@ pub answered_as : (before after : Holding) (c : Asked) (output : Move) (r : Resu
 answered_as before after c output r meant s is same h =
     subst (λ (m : Meant). IsAnswered before after m output s) (sym is)
     (subst (λ (x : Result Flow ServeFault). IsAnswered before after (Meant.Do c) output x) (sym same) (answered_do before after c output r h))
+
+-- the words of a finding are short
+pub find_short : (words : List ℕ) (meant : Meant) → meant ≡ Meant.Do (Asked.Find words) → IsGood meant → length words < 2 ^ 32
+find_short words meant is good =
+    let short = (subst IsGood is good).short in omega (arith, short, length-append (codes "find ") words)
 
 -- `end` was answered
 pub end_answered : (held : Holding) (output : Move) (meant : Meant) (r : Result Flow ServeFault) → meant ≡ Meant.End → held.broken ≡ false

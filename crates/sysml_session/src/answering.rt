@@ -1,4 +1,4 @@
-ghost use Rattle.std.specs.Prelude.{◌≡◌, false};
+ghost use Rattle.std.specs.Prelude.{◌≡◌, ◌<◌, ◌^◌, false, length};
 ghost use Rattle.book_model.specs.Answers.{Command as Asked};
 ghost use Rattle.sysml_session.specs.Answered.{Holding, IsAnswered, IsGiven, across};
 
@@ -56,6 +56,13 @@ pub trait Answering {
     fn check<K: Sink>(&mut self, output: &mut K) -> Result<(), AnswerFault>
         requires whole { (holding self.old).broken ≡ false }
         ensures answered { IsAnswered (holding self.old) (holding self.new) Asked.Check
+            (across K.given K.faults output.old output.new) result };
+
+    /// Finds the qualified name that words are, or says that they are none.
+    fn find<K: Sink>(&mut self, words: &Text, output: &mut K) -> Result<(), AnswerFault>
+        requires whole { (holding self.old).broken ≡ false }
+        requires few { length words.now < 2 ^ 32 }
+        ensures answered { IsAnswered (holding self.old) (holding self.new) (Asked.Find words.now)
             (across K.given K.faults output.old output.new) result };
 }
 

@@ -2,6 +2,7 @@ ghost use Rattle.std.specs.Prelude.{◌≡◌, ◌+◌, ◌≤◌, [], false, le
 ghost use Rattle.linker_base.specs.declared.limits.TheConstants.{INPUT_BYTES};
 ghost use Rattle.session_streams.specs.Serving.{ServedFor};
 ghost use Rattle.script_commands.specs.Lines.{command_of};
+ghost use Rattle.script_commands.specs.Reading.{IsGood};
 ghost use Rattle.sysml_session.specs.Answered.{across};
 ghost use Rattle.sysml_session.specs.Turns.{sight, ending_of, fault_after, IsAnswered, IsTurnFrom};
 ghost use Rattle.sysml_session.specs.Turns.{IsForward, HasCauses, HasServed, IsWritten, flow_after};
@@ -74,6 +75,7 @@ fn answer<P: Answering, K: Sink, L: Ledger>(
     steps: &mut Steps<L>,
 ) -> Result<Flow, ServeFault>
     requires whole { (P.holding project.old).broken ≡ false }
+    requires good { IsGood (command_of command) }
     ensures { IsAnswered (P.holding project.old) (P.holding project.new) (command_of command)
         (across K.given K.faults output.old output.new) result }
 {
@@ -82,6 +84,7 @@ fn answer<P: Answering, K: Sink, L: Ledger>(
         Command::Drop { name } => flow_after(project.drop(name, output, steps)),
         Command::Links { name } => flow_after(project.links(&name, output)),
         Command::Check => flow_after(project.check(output)),
+        Command::Find { words } => flow_after(project.find(&words, output)),
         Command::End => give_end(output),
     }
 }

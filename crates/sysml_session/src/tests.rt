@@ -68,6 +68,10 @@ impl Answering for Bare {
     fn check<K: Sink>(&mut self, output: &mut K) -> Result<(), AnswerFault> {
         give_piece(output, b"check files 0 references 0 faults 0\n")
     }
+
+    fn find<K: Sink>(&mut self, _words: &Text, _output: &mut K) -> Result<(), AnswerFault> {
+        Err(AnswerFault::NoMemory)
+    }
 }
 
 /// How a session over the bare project ends, with objects that move at most `size` bytes a call, of which

@@ -1,7 +1,7 @@
 use Rattle.std.proofs.Common.{ap}
 use Rattle.book_model.specs.Answers.{Command as Asked}
 use Rattle.script_commands.specs.Lines.{command_of}
-use Rattle.sysml_session.proofs.Commands.{answered_as, end_answered}
+use Rattle.sysml_session.proofs.Commands.{answered_as, end_answered, find_short}
 use Rattle.sysml_session.proofs.serving.answer.Goals as goal
 
 pub returns-in-Put : goal.returns-in-Put
@@ -18,6 +18,13 @@ returns-in-Links g c = answered_as _ _ (Asked.Links c.in-Links.name) _ c.links.r
 
 pub returns-in-Check : goal.returns-in-Check
 returns-in-Check g c = answered_as _ _ Asked.Check _ c.check.result _ _ (ap command_of c.in-Check.is) c.flow_after-in-Check.ensures c.check.ensures.answered
+
+pub find-requires-clause-few : goal.find-requires-clause-few
+find-requires-clause-few g c = find_short c.in-Find.words _ (ap command_of c.in-Find.is) c.requires.good
+
+pub returns-in-Find : goal.returns-in-Find
+returns-in-Find g c = answered_as _ _ (Asked.Find c.in-Find.words) _ c.find.result _ _
+    (ap command_of c.in-Find.is) c.flow_after-in-Find.ensures c.find.ensures.answered
 
 pub returns-in-End : goal.returns-in-End
 returns-in-End g c = end_answered _ _ _ c.give_end.result (ap command_of c.in-End.is) c.requires.whole c.give_end.ensures

@@ -10,3 +10,6 @@ pub returns-in-Ok-clause-turned : goal.returns-in-Ok-clause-turned
 returns-in-Ok-clause-turned g c = turn_done _ _ _ _ _ _ _ _ (g.K.Sink.faults c.args.output.now) (g.K.Sink.faults c.answer.new.output)
     (command_of c.in-Ok.command) c.answer.result
     c.in-Ok.ensures.read (omega (arith, c.taken.ensures.count, c.taken.ensures.within)) c.answer.ensures
+
+pub answer-requires-clause-good : goal.answer-requires-clause-good
+answer-requires-clause-good g c = c.in-Ok.ensures.read.outcome.0
