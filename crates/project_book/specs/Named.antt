@@ -1,6 +1,6 @@
 -- The files of a project without a library: the book that they are of, their numbers, and that each is read from its
 -- text.
-use Rattle.std.specs.Prelude.{◌≡◌, ◌≢◌, ℕ, suc, ◌<◌, cond, false, List, [], ◌∷◌, length, map, Option, Some, None}
+use Rattle.std.specs.Prelude.{◌≡◌, ◌≢◌, ◌⊎◌, ℕ, suc, ◌<◌, cond, false, List, [], ◌∷◌, length, map, Option, Some, None}
 use Rattle.std.specs.Option.{option_map}
 use Rattle.element_store.specs.declared.numbers.FileNo.{FileNo}
 use Rattle.element_store.specs.declared.outcome.Language.{Language}
@@ -67,3 +67,7 @@ pub record IsKeptUnder (before after : List ProjectFile) (name text : List ℕ) 
   pub files : after ≡ with_content before name (Some content)
   pub number : number_under after name ≡ file.0
   pub below : file.0 < length after
+
+-- the files are as before, but maybe for what stands under the name
+abbrev pub HaveMoved : List ProjectFile → List ProjectFile → List ℕ → Type 0
+HaveMoved before after name = (after ≡ before) ⊎ ((c : Option Content) × (after ≡ with_content before name c))

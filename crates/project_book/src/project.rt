@@ -2,7 +2,7 @@ ghost use Rattle.std.specs.Prelude.{◌≡◌, [], Some, false};
 ghost use Rattle.book_model.specs.declared.edit.Edit.TheVariants.{Drop as Dropped};
 ghost use Rattle.book_model.specs.Files.{AreFilesOf};
 ghost use Rattle.project_book.specs.Held.{IsApplied, IsPut, IsRoomFor};
-ghost use Rattle.project_book.specs.Named.{IsNumberUnder, book_of};
+ghost use Rattle.project_book.specs.Named.{HaveMoved, IsNumberUnder, book_of};
 
 use crate::faults::{Applied, ApplyFault};
 use crate::named::NamedFiles;
@@ -90,7 +90,8 @@ impl Project {
     /// Puts a text under a name, and gives the number of its file. `Limit` comes exactly where the put
     /// would pass a number of the book, with that number. A text with a fault is kept with its fault.
     pub fn put(&mut self, name: FileName, text: Text) -> Result<FileNo, ApplyFault>
-        ensures { IsPut self.old self.new (name, text) result }
+        ensures put { IsPut self.old self.new (name, text) result }
+        ensures files { HaveMoved self.old.files self.new.files name }
     {
         if self.broken {
             return Err(ApplyFault::Broken);
@@ -116,7 +117,8 @@ impl Project {
     /// Drops the text under a name. The name stays, and counts. `NotThere` comes exactly where no text
     /// stands under it.
     pub fn remove(&mut self, name: &FileName) -> Result<Applied, ApplyFault>
-        ensures { IsApplied self.old self.new (Dropped name.now) result }
+        ensures applied { IsApplied self.old self.new (Dropped name.now) result }
+        ensures files { HaveMoved self.old.files self.new.files name.now }
     {
         if self.broken {
             return Err(ApplyFault::Broken);

@@ -1,7 +1,8 @@
-use Rattle.std.proofs.Common.{◌≡◌, ◌∙◌, length, sym, ap, subst}
+use Rattle.std.proofs.Common.{◌≡◌, ◌∙◌, length, sym, ap, subst, inr}
+use Rattle.std.specs.Prelude.{Some}
 use Rattle.book_model.specs.declared.edit.Edit.TheVariants.{Put}
 use Rattle.book_model.specs.Book.{Edited, bytes_in, edited, put_in}
-use Rattle.project_book.specs.Named.{book_of}
+use Rattle.project_book.specs.Named.{HaveMoved, book_of}
 use Rattle.project_book.proofs.HeldLaws.{put_done, put_sized}
 use Rattle.project_book.proofs.project.Project.put.Goals as goal
 
@@ -16,8 +17,8 @@ invariant_of-self c =
     let done = put_done before after c.args.name c.args.text c.in-Ok-keep.file c.files.ensures.read c.in-Ok-keep.ensures.kept room.1 in
     put_sized before after c.self.inside.bytes c.in-Ok.bytes c.args.name c.args.text c.self.invariant room.1 done room.0
 
-pub returns-in-Ok-keep : goal.returns-in-Ok-keep
-returns-in-Ok-keep c =
+pub returns-in-Ok-keep-clause-put : goal.returns-in-Ok-keep-clause-put
+returns-in-Ok-keep-clause-put c =
     let before = c.self.inside.named in
     let after = c.keep.new.self in
     let files = ap (λ held. held.files) c.self.view_is in
@@ -33,3 +34,8 @@ returns-in-Ok-keep c =
       ),
       (kept.number, kept.below),
     )
+
+pub returns-in-Ok-keep-clause-files : goal.returns-in-Ok-keep-clause-files
+returns-in-Ok-keep-clause-files c =
+    let kept = c.in-Ok-keep.ensures.kept in
+    subst (λ fs. HaveMoved fs c.keep.new.self c.args.name) (ap (λ held. held.files) c.self.view_is) (inr (Some kept.content, kept.files))

@@ -1,7 +1,8 @@
-use Rattle.std.proofs.Common.{◌≡◌, ◌∙◌, ◌+◌, ◌-◌, length, sym, ap, arith}
+use Rattle.std.proofs.Common.{◌≡◌, ◌∙◌, ◌+◌, ◌-◌, length, sym, ap, subst, inr, arith}
+use Rattle.std.specs.Prelude.{None}
 use Rattle.book_model.specs.declared.edit.Edit.TheVariants.{Drop}
 use Rattle.book_model.specs.Book.{edited, text_in}
-use Rattle.project_book.specs.Named.{book_of}
+use Rattle.project_book.specs.Named.{HaveMoved, book_of}
 use Rattle.project_book.proofs.HeldLaws.{drop_done, drop_fits, drop_sized, text_sized}
 use Rattle.project_book.proofs.project.Project.remove.Goals as goal
 
@@ -17,8 +18,8 @@ invariant_of-self c =
     drop_sized c.self.inside.named c.clear.new.self c.self.inside.bytes (c.self.inside.bytes - c.in-Some.size) c.args.name.now text.0
     c.files.ensures.read c.self.invariant text.1 (omega (arith, text.2, fits)) c.in-Some.ensures.cleared
 
-pub returns-in-Some : goal.returns-in-Some
-returns-in-Some c =
+pub returns-in-Some-clause-applied : goal.returns-in-Some-clause-applied
+returns-in-Some-clause-applied c =
     let text = text_sized (text_in (book_of c.self.inside.named) c.args.name.now) c.in-Some.size c.in-Some.ensures.size in
     let files = ap (λ held. held.files) c.self.view_is in (
       sym (ap (λ held. held.broken) c.self.view_is) ∙ c.if-self.false,
@@ -26,3 +27,7 @@ returns-in-Some c =
           ∙ drop_done c.self.inside.named c.clear.new.self c.args.name.now text.0 c.files.ensures.read text.1 c.in-Some.ensures.cleared,
       c.if-self.false,
     )
+
+pub returns-in-Some-clause-files : goal.returns-in-Some-clause-files
+returns-in-Some-clause-files c =
+    subst (λ fs. HaveMoved fs c.clear.new.self c.args.name.now) (ap (λ held. held.files) c.self.view_is) (inr (None, c.in-Some.ensures.cleared))
