@@ -5,12 +5,13 @@
   make_session_examples.py --check   fails where they differ from what would be written
 
 The script has the worked scripts, as far as their commands stand by now, and 300 random books of one to four files, each
-put, checked and listed, a quarter of them changed in one file and checked again. The other program stands beside the repository, in ../shared/oracle;
+put, checked and listed, with two names that are asked for, a quarter of them changed in one file and checked again. The other program stands beside the repository, in ../shared/oracle;
 where it isn't, nothing is checked.
 """
 import glob
 import os
 import random
+import re
 import sys
 
 sys.dont_write_bytecode = True
@@ -21,9 +22,11 @@ from random_books import book, text
 STAGE = 6
 SEED = 20261201
 BOOKS = 300
-COMMANDS = (b'put', b'drop', b'links', b'check')
+COMMANDS = (b'put', b'drop', b'links', b'check', b'find')
+WORD = re.compile(rb"[A-Za-z_]\w*|'[^'\n]*'")
 CRATE = os.path.join(os.path.dirname(os.path.abspath(__file__)), '..', 'crates', 'sysml')
 if HAS_OTHER:
+    from oracle.lexer import lex
     from oracle.script import run
 
 
@@ -57,11 +60,25 @@ def worked():
             yield commands_of(script)
 
 
-def random_book(chance, changes):
-    """A book that is put, checked and listed, and then maybe changed in one file and checked again."""
+def is_name(word):
+    """Whether it is one name in SysML."""
+    return [token.kind for token in lex(word, 'sysml').tokens] == ['NAME']
+
+
+def finding(chance, files):
+    """A name of words of these files, with `$::` before it or not, seldom a bad one."""
+    words = sorted({word for _, written in files for word in WORD.findall(written) if is_name(word)}) or [b'A']
+    path = [chance.choice(words) for _ in range(chance.randint(1, 3))]
+    ending = chance.choice([b''] * 12 + [b' // x', b'::', b' \r', b'.a'])
+    return b'find ' + chance.choice([b'', b'', b'$::']) + chance.choice([b'::', b' :: ']).join(path) + ending + b'\n'
+
+
+def random_book(chance, asking, changes):
+    """A book that is put, checked, listed and asked for names, and then maybe changed in one file and checked again."""
     files = [(b'm%d.%s' % (i, language.encode()), written.encode()) for i, (language, written) in enumerate(book(chance))]
     said = b''.join(put(name, written) for name, written in files)
     said += b'check\n' + b''.join(b'links %s\n' % name for name, _ in files)
+    said += b''.join(finding(asking, files) for _ in range(2))
     name = chance.choice(files)[0]
     if not changes:
         return said + b''.join(b'drop %s\n' % name for name, _ in files)
@@ -72,8 +89,9 @@ def random_book(chance, changes):
 
 
 def script():
-    chance = random.Random(SEED)
-    return b''.join(worked()) + b''.join(random_book(chance, number % 4 == 0) for number in range(BOOKS)) + b'end\n'
+    chance, asking = random.Random(SEED), random.Random(SEED)
+    books = (random_book(chance, asking, number % 4 == 0) for number in range(BOOKS))
+    return b''.join(worked()) + b''.join(books) + b'end\n'
 
 
 def main():

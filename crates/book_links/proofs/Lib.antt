@@ -1,2 +1,2 @@
-mod KeyLaws
 mod SettledLaws
+pub mod FoundLaws

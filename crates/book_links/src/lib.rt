@@ -1,10 +1,10 @@
-//! What became of the references of a book's models: the rules of links, settled by the engine over all
-//! files (KerML 8.2.3.5, name resolution).
+//! What became of the references of a book's models, for a project that answers: the kept links of its files,
+//! which follow its edits (KerML 8.2.3.5, name resolution).
 #![tactic(auto)]
 
-mod copying;
-mod keys;
+mod finding;
 mod linked_files;
 mod links;
+mod settling;
 
 pub use links::BookLinks;

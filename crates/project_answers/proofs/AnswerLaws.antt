@@ -5,7 +5,7 @@ use Rattle.std.specs.Option.{option_map}
 use Rattle.element_store.specs.declared.numbers.FileNo.{FileNo}
 use Rattle.book_model.specs.declared.edit.Edit.TheVariants as edit
 use Rattle.book_model.specs.declared.rows.FileReport.{FileReport}
-use Rattle.book_model.specs.Answers.{Command as Asked, answer_of, book_after, drop_answer, line, put_answer, refusal_of, IsAnswer}
+use Rattle.book_model.specs.Answers.{Command as Asked, Answers, book_after, drop_answer, line, put_answer, refusal_of, IsAnswer}
 use Rattle.book_model.specs.Book.{Book, Edited, dropped, edited, left_by, number_of, text_in}
 use Rattle.book_model.specs.Files.{AreFilesOf, number_under}
 use Rattle.book_model.specs.Queries.{file_query}
@@ -27,7 +27,7 @@ use Rattle.project_answers.specs.Lines.{drop_rest, put_rest}
 -- a command that is done and whose answer was given
 pub answered_as : (before after : Held) (c : Asked) (answer : List ℕ) (output : Move) (r : Result (Unit {0}) AnswerFault)
     → refusal_of (book_of before.files) c ≡ None → book_of after.files ≡ book_after (book_of before.files) c → after.broken ≡ false
-    → AreFilesOf (book_of after.files) [] after.files → answer ≡ answer_of (book_of before.files) after.files c → IsTold output answer r
+    → AreFilesOf (book_of after.files) [] after.files → Answers (book_of before.files) after.files c answer → IsTold output answer r
     → IsAnswered (holding_of before) (holding_of after) c output r
 answered_as before after c answer output r room book whole are is given = by r given where
   is_answer : IsAnswer [] (book_of before.files) c answer
@@ -38,7 +38,7 @@ answered_as before after c answer output r room book whole are is given = by r g
       (record { has = record { room = room; answer = answer; is = is_answer }; book = book; library = refl; whole = whole }, g.0, g.1)
   by (Err WriteFault) g =
       (record { has = record { room = room; answer = answer; is = is_answer }; book = book; library = refl; whole = whole }, g.0, g.1)
-  by (Err (Limit number)) g = absurd (cc)
+  by (Err (Limit number)) g = absurd g
   by (Err NoMemory) g = (inl g.0, g.1)
 
 -- want of memory before anything was given

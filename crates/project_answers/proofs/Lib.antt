@@ -5,3 +5,6 @@ pub mod RowLaws
 pub mod OrderLaws
 pub mod WrongLaws
 pub mod ListedLaws
+pub mod NameLaws
+pub mod FindLaws
+pub mod FollowLaws

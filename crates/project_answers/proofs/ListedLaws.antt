@@ -45,7 +45,7 @@ module _ (h : Holding) (c : Asked) (done : IsDone h h c) where
       (done, subst (GaveFront (moved a b)) is (front_then a a b [] first more (gave_none a) part.0), part.1)
   part_failed a b first more count NoMemory is part =
       (inr (done.has, subst (GaveFront (moved a b)) is (front_then a a b [] first more (gave_none a) part.0)), part.1)
-  part_failed a b first more count (Limit number) is part = absurd (cc)
+  part_failed a b first more count (Limit number) is part = absurd part
 
   -- the parts were given, and then memory was wanting
   pub line_wanted : (a b : Stream) (first more : List ℕ) → first ++ more ≡ done.has.answer → Gave (moved a b) first → IsSound (moved a b)

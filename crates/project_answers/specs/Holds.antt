@@ -6,10 +6,11 @@ use Rattle.sysml_session.specs.declared.answering.AnswerFault.{AnswerFault}
 use Rattle.sysml_session.specs.declared.answering.AnswerFault.TheVariants.{Limit, WriteFault, NoMemory}
 use Rattle.element_store.specs.declared.numbers.FileNo.{FileNo}
 use Rattle.element_store.specs.declared.models.StoredFile.{StoredFile}
-use Rattle.book_model.specs.Files.{Content, ProjectFile, content_under, stored}
+use Rattle.element_store.specs.Stored.{with_model}
+use Rattle.book_model.specs.Files.{Content, ProjectFile, content_under, number_under, stored}
 use Rattle.project_files.specs.Kept.{content_at}
 use Rattle.project_book.specs.Held.{Held}
-use Rattle.project_book.specs.Named.{book_of}
+use Rattle.project_book.specs.Named.{book_of, HaveMoved}
 
 -- the book of its files over no library, and its mark
 abbrev pub holding_of : Held → Holding
@@ -20,7 +21,7 @@ abbrev pub IsTold : Move → List ℕ → Result (Unit {0}) AnswerFault → Type
 IsTold output piece (Ok u) = IsGiven output piece (Ok u)
 IsTold output piece (Err WriteFault) = IsGiven output piece (Err WriteFault)
 IsTold output piece (Err NoMemory) = Gave output [] × IsSound output
-IsTold output piece (Err (Limit number)) = Limit number ≡ NoMemory
+IsTold output piece (Err (Limit number)) = ⊥
 
 -- the text under the name is present, in the file of that number; or none is
 abbrev pub IsPresentAt : List ProjectFile → List ℕ → Option FileNo → Type 0
@@ -28,12 +29,33 @@ IsPresentAt files name (Some file) =
     (c : Content) × (content_under files name ≡ Some c) × (content_at files file ≡ Some c)
 IsPresentAt files name None = content_under files name ≡ None
 
--- what a desk holds: its project, the files that were linked last, and whether that was after the last edit
-pub record Desked : Type 0 where
-  pub held : Held
-  pub linked : List StoredFile
+-- whose edits were followed: the files, and whether all their references are linked
+pub record Followed : Type 0 where
+  pub files : List StoredFile
   pub is_linked : Bool
 
--- files that were linked after the last edit are those of the project
+-- all references of the files are linked
+abbrev pub all_linked : List StoredFile → Followed
+all_linked files = record { files = files; is_linked = true }
+
+-- the files are as before, but maybe for the content of the file of that number, which may be new
+pub record HaveMovedAt (file : FileNo) (before after : List ProjectFile) : Type 0 where
+  pub name : List ℕ
+  pub place : number_under before name ≡ file.0
+  pub moved : HaveMoved before after name
+
+-- the files were followed up to the going of the text at that number, and may have moved there since
+pub record FollowedBefore (followed : List StoredFile) (now : List ProjectFile) (file : FileNo) : Type 0 where
+  pub before : List ProjectFile
+  pub followed_is : followed ≡ with_model (stored before) file.0 None
+  pub moved : HaveMovedAt file before now
+
+-- what a desk holds: its project, the files whose edits were followed, and whether these are those of the project
+pub record Desked : Type 0 where
+  pub held : Held
+  pub follows : Followed
+  pub is_following : Bool
+
+-- files that are followed are those of the project
 abbrev pub IsFresh : Desked → Type 0
-IsFresh d = d.is_linked ≡ true → d.linked ≡ stored d.held.files
+IsFresh d = d.is_following ≡ true → d.follows.files ≡ stored d.held.files

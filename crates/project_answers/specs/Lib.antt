@@ -4,3 +4,4 @@ pub mod Spots
 pub mod Parts
 pub mod RowLines
 pub mod Wrong
+pub mod Words

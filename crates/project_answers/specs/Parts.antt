@@ -14,4 +14,4 @@ abbrev pub IsPart : Move → List ℕ → ℕ → Result ℕ AnswerFault → Typ
 IsPart output whole count (Ok n) = (n ≡ count) × Gave output whole × IsSound output
 IsPart output whole count (Err WriteFault) = GaveFront output whole × Fails output
 IsPart output whole count (Err NoMemory) = GaveFront output whole × IsSound output
-IsPart output whole count (Err (Limit number)) = Limit number ≡ NoMemory
+IsPart output whole count (Err (Limit number)) = ⊥

@@ -1,10 +1,13 @@
 ghost use Rattle.std.specs.Prelude.{◌≡◌, OnOk, [], false};
 ghost use Rattle.book_model.specs.Files.{stored};
-ghost use Rattle.project_answers.specs.Holds.{holding_of};
+ghost use Rattle.project_answers.specs.Holds.{all_linked, holding_of};
 
 use crate::edits::{answer_drop, answer_put};
+use crate::finding::{answer_bad_name, answer_find};
+use crate::following::{close, open, place_of};
 use crate::linking::Linking;
 use crate::links::{answer_links, answer_no_links, present};
+use crate::words::name_in;
 use crate::wrong::answer_check;
 use demand_core::{Ledger, Steps};
 use element_store::{FileName, Text};
@@ -16,15 +19,16 @@ use std::alloc::Global;
 use std::marker::Model;
 use sysml_session::{AnswerFault, Answering};
 
-/// A project that answers a session, over whoever links its files. They are linked anew when a question comes
-/// after an edit. Contracts see what the project holds, and the files that were linked last.
+/// A project that answers a session, over whoever links its files. Its links follow each edit, and are
+/// settled when a question comes. Contracts see what the project holds, and the files that are followed.
 #[derive(Drop)]
 pub struct Desk<G: Linking> {
     alloc: Global,
     project: Project,
     linking: G,
-    // Whether the files were linked after the last edit.
-    is_linked: bool,
+    // Whether the links followed all edits. Want of memory may have kept them from it; then a question links
+    // all files anew.
+    is_following: bool,
 }
 
 impl<G: Linking> Model for Desk<G> {
@@ -34,14 +38,14 @@ impl<G: Linking> Model for Desk<G> {
 
     ghost view = { λ d. record {
       held = d.project;
-      linked = G.linked d.linking;
-      is_linked = d.is_linked;
+      follows = G.follows d.linking;
+      is_following = d.is_following;
     } };
 
     ghost invariant = { λ d. IsFresh (record {
       held = d.project;
-      linked = G.linked d.linking;
-      is_linked = d.is_linked;
+      follows = G.follows d.linking;
+      is_following = d.is_following;
     }) };
 }
 
@@ -54,20 +58,23 @@ impl<G: Linking> Desk<G> {
             alloc,
             project: Project::new(alloc),
             linking: G::none(alloc),
-            is_linked: false,
+            is_following: true,
         }
     }
 
-    /// Links the files, if they weren't linked after the last edit.
+    /// Links what the edits since the last question may have changed.
     fn link(&mut self) -> Result<(), NoMemory>
         ensures held { self.new.held ≡ self.old.held }
-        ensures linked { OnOk result (self.new.linked ≡ stored self.old.held.files) }
+        ensures linked { OnOk result (self.new.follows ≡ all_linked (stored self.old.held.files)) }
     {
-        if !self.is_linked {
-            self.linking.link(self.project.files().models())?;
-            self.is_linked = true;
-        }
-        Ok(())
+        let models = self.project.files().models();
+        let linked = if self.is_following {
+            self.linking.settle(models)
+        } else {
+            self.linking.link(models)
+        };
+        self.is_following = linked.is_ok();
+        linked
     }
 }
 
@@ -81,8 +88,11 @@ impl<G: Linking> Answering for Desk<G> {
         output: &mut K,
         _steps: &mut Steps<L>,
     ) -> Result<(), AnswerFault> {
-        self.is_linked = false;
-        answer_put(self.alloc, &mut self.project, name, text, output)
+        let file = place_of(&self.project, &name);
+        let follows = self.is_following && close(&mut self.linking, &self.project, file);
+        let answered = answer_put(self.alloc, &mut self.project, name, text, output);
+        self.is_following = follows && open(&mut self.linking, &self.project, file);
+        answered
     }
 
     fn drop<K: Sink, L: Ledger>(
@@ -91,8 +101,11 @@ impl<G: Linking> Answering for Desk<G> {
         output: &mut K,
         _steps: &mut Steps<L>,
     ) -> Result<(), AnswerFault> {
-        self.is_linked = false;
-        answer_drop(self.alloc, &mut self.project, &name, output)
+        let file = place_of(&self.project, &name);
+        let follows = self.is_following && close(&mut self.linking, &self.project, file);
+        let answered = answer_drop(self.alloc, &mut self.project, &name, output);
+        self.is_following = follows && open(&mut self.linking, &self.project, file);
+        answered
     }
 
     fn links<K: Sink>(&mut self, name: &FileName, output: &mut K) -> Result<(), AnswerFault> {
@@ -116,6 +129,24 @@ impl<G: Linking> Answering for Desk<G> {
         match self.link() {
             Ok(()) => answer_check(self.alloc, &self.project, &mut self.linking, output),
             Err(_) => Err(AnswerFault::NoMemory),
+        }
+    }
+
+    fn find<K: Sink>(&mut self, words: &Text, output: &mut K) -> Result<(), AnswerFault> {
+        match name_in(self.alloc, words.bytes()) {
+            Err(_) => Err(AnswerFault::NoMemory),
+            Ok(None) => answer_bad_name(&self.project, words, output),
+            Ok(Some(name)) => match self.link() {
+                Ok(()) => answer_find(
+                    self.alloc,
+                    &self.project,
+                    &mut self.linking,
+                    words,
+                    name,
+                    output,
+                ),
+                Err(_) => Err(AnswerFault::NoMemory),
+            },
         }
     }
 }

@@ -3,6 +3,7 @@ ghost use Rattle.std.specs.Option.{option_map};
 ghost use Rattle.book_model.specs.Answers.{Command as Asked};
 ghost use Rattle.book_model.specs.Rows.{report_of};
 ghost use Rattle.project_files.specs.Kept.{content_at};
+ghost use Rattle.project_book.specs.Named.{HaveMoved};
 ghost use Rattle.sysml_session.specs.Answered.{IsAnswered, across};
 ghost use Rattle.project_answers.specs.Holds.{IsTold, holding_of};
 ghost use Rattle.project_answers.specs.Lines.{drop_rest, head_of, put_rest};
@@ -41,8 +42,9 @@ fn put_and_tell<K: Sink>(
 ) -> Result<(), AnswerFault>
     requires whole { project.old.broken ≡ false }
     requires begun { line.items ≡ head_of (codes "put") name }
-    ensures { IsAnswered (holding_of project.old) (holding_of project.new) (Asked.Put name text)
-        (across K.given K.faults output.old output.new) result }
+    ensures answered { IsAnswered (holding_of project.old) (holding_of project.new)
+        (Asked.Put name text) (across K.given K.faults output.old output.new) result }
+    ensures files { HaveMoved project.old.files project.new.files name }
 {
     match project.put(name, text) {
         Ok(file) => {
@@ -63,8 +65,9 @@ pub(crate) fn answer_put<K: Sink>(
     output: &mut K,
 ) -> Result<(), AnswerFault>
     requires { project.old.broken ≡ false }
-    ensures { IsAnswered (holding_of project.old) (holding_of project.new) (Asked.Put name text)
-        (across K.given K.faults output.old output.new) result }
+    ensures answered { IsAnswered (holding_of project.old) (holding_of project.new)
+        (Asked.Put name text) (across K.given K.faults output.old output.new) result }
+    ensures files { HaveMoved project.old.files project.new.files name }
 {
     // The line begins with the name, which the project keeps then.
     match begin_line(alloc, b"put", &name) {
@@ -96,8 +99,9 @@ pub(crate) fn answer_drop<K: Sink>(
     output: &mut K,
 ) -> Result<(), AnswerFault>
     requires { project.old.broken ≡ false }
-    ensures { IsAnswered (holding_of project.old) (holding_of project.new) (Asked.Drop name.now)
-        (across K.given K.faults output.old output.new) result }
+    ensures answered { IsAnswered (holding_of project.old) (holding_of project.new)
+        (Asked.Drop name.now) (across K.given K.faults output.old output.new) result }
+    ensures files { HaveMoved project.old.files project.new.files name.now }
 {
     let Ok(line) = begin_line(alloc, b"drop", name) else {
         return Err(AnswerFault::NoMemory);

@@ -4,6 +4,8 @@
 
 mod desk;
 mod edits;
+mod finding;
+mod following;
 mod lines;
 mod linking;
 mod links;
@@ -11,6 +13,7 @@ mod order;
 mod parts;
 mod rows;
 mod spots;
+mod words;
 mod wrong;
 
 pub use desk::Desk;

@@ -2,7 +2,7 @@ ghost use Rattle.std.specs.Prelude.{◌≡◌, IfOk, codes, false, Some, None};
 ghost use Rattle.std.specs.Fmt.{decimal};
 ghost use Rattle.book_model.specs.Answers.{Command as Asked, line};
 ghost use Rattle.book_model.specs.Files.{stored};
-ghost use Rattle.project_answers.specs.Holds.{IsPresentAt, holding_of};
+ghost use Rattle.project_answers.specs.Holds.{IsPresentAt, all_linked, holding_of};
 ghost use Rattle.sysml_session.specs.Answered.{IsAnswered, across};
 
 use crate::lines::{begin_line, end_count, end_none};
@@ -72,10 +72,10 @@ pub(crate) fn answer_links<G: Linking, K: Sink>(
 ) -> Result<(), AnswerFault>
     requires whole { project.now.broken ≡ false }
     requires present { IsPresentAt project.now.files name.now (Some file) }
-    requires over { G.linked linking.old ≡ stored project.now.files }
+    requires over { G.follows linking.old ≡ all_linked (stored project.now.files) }
     ensures answered { IsAnswered (holding_of project.now) (holding_of project.now)
         (Asked.Links name.now) (across K.given K.faults output.old output.new) result }
-    ensures over { G.linked linking.new ≡ stored project.now.files }
+    ensures over { G.follows linking.new ≡ all_linked (stored project.now.files) }
 {
     let files = project.files();
     // A look at the models tells what holds of all files.

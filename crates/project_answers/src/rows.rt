@@ -4,6 +4,7 @@ ghost use Rattle.book_model.specs.Live.{HasModel, IsLiveReference, NamesLive};
 ghost use Rattle.book_model.specs.Printed.{row_text};
 ghost use Rattle.element_store.specs.Model.{Data};
 ghost use Rattle.sysml_session.specs.Answered.{across};
+ghost use Rattle.project_answers.specs.Holds.{all_linked};
 ghost use Rattle.project_answers.specs.Parts.{IsPart};
 ghost use Rattle.project_answers.specs.RowLines.{before_row, count_of, counts_of, file_counts, file_lines};
 ghost use Rattle.project_answers.specs.RowLines.{is_listed, line_of, lines_of, reference_at, row_at};
@@ -36,10 +37,10 @@ fn row_of<G: Linking>(
     reference: RefNo,
 ) -> Result<LinkRow, NoMemory>
     requires stands { IsLiveReference files.now reference }
-    requires over { G.linked linking.old ≡ stored files.now }
+    requires over { G.follows linking.old ≡ all_linked (stored files.now) }
     ensures row { IfOk result (λ row. row ≡ row_at files.now reference) }
     ensures names { IfOk result (λ row. NamesLive files.now row.outcome) }
-    ensures over { G.linked linking.new ≡ stored files.now }
+    ensures over { G.follows linking.new ≡ all_linked (stored files.now) }
 {
     // A look at the files tells what holds of all of them.
     let _ = files.models().files();
@@ -136,11 +137,11 @@ fn give_line<G: Linking, K: Sink>(
     output: &mut K,
 ) -> Result<usize, AnswerFault>
     requires stands { IsLiveReference files.now reference }
-    requires over { G.linked linking.old ≡ stored files.now }
+    requires over { G.follows linking.old ≡ all_linked (stored files.now) }
     ensures part { IsPart (across K.given K.faults output.old output.new)
         (line_of listing files.now (row_at files.now reference))
         (count_of listing (row_at files.now reference)) result }
-    ensures over { G.linked linking.new ≡ stored files.now }
+    ensures over { G.follows linking.new ≡ all_linked (stored files.now) }
 {
     match row_of(files, linking, reference) {
         Ok(row) => {
@@ -165,11 +166,11 @@ fn give_lines<G: Linking, K: Sink>(
     output: &mut K,
 ) -> Result<usize, AnswerFault>
     requires stand { Each (λ s. IsLiveReference files.now (reference_at file s)) spots.now }
-    requires over { G.linked linking.old ≡ stored files.now }
+    requires over { G.follows linking.old ≡ all_linked (stored files.now) }
     ensures part { IsPart (across K.given K.faults output.old output.new)
         (lines_of listing files.now file spots.now)
         (counts_of listing files.now file spots.now) result }
-    ensures over { G.linked linking.new ≡ stored files.now }
+    ensures over { G.follows linking.new ≡ all_linked (stored files.now) }
     ensures few { IfOk result (λ n. n ≤ length spots.now) }
 {
     let mut told = 0;
@@ -194,10 +195,10 @@ pub(crate) fn give_rows<G: Linking, K: Sink>(
     output: &mut K,
 ) -> Result<usize, AnswerFault>
     requires has { (d : Data) × HasModel files.now file d }
-    requires over { G.linked linking.old ≡ stored files.now }
+    requires over { G.follows linking.old ≡ all_linked (stored files.now) }
     ensures part { IsPart (across K.given K.faults output.old output.new)
         (file_lines listing files.now file) (file_counts listing files.now file) result }
-    ensures over { G.linked linking.new ≡ stored files.now }
+    ensures over { G.follows linking.new ≡ all_linked (stored files.now) }
     ensures few { IfOk result (λ n. n < 4294967296) }
 {
     match rising(alloc, files.model(file)) {

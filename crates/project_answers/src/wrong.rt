@@ -4,7 +4,7 @@ ghost use Rattle.book_model.specs.Answers.{Command as Asked, references_in};
 ghost use Rattle.book_model.specs.Files.{AreFilesOf, name_at, stored};
 ghost use Rattle.book_model.specs.Printed.{fault_row_text};
 ghost use Rattle.book_model.specs.Rows.{report_of};
-ghost use Rattle.project_answers.specs.Holds.{holding_of};
+ghost use Rattle.project_answers.specs.Holds.{all_linked, holding_of};
 ghost use Rattle.project_answers.specs.Lines.{counts_with};
 ghost use Rattle.project_answers.specs.Parts.{IsPart, sum_of};
 ghost use Rattle.project_answers.specs.Wrong.{presents, wrong_count_at, wrong_lines_at, lines_at};
@@ -103,10 +103,10 @@ fn give_file<G: Linking, K: Sink>(
 ) -> Result<usize, AnswerFault>
     requires are { AreFilesOf (book_of files.now) [] files.now }
     requires stands { file.0 < length files.now }
-    requires over { G.linked linking.old ≡ stored files.now }
+    requires over { G.follows linking.old ≡ all_linked (stored files.now) }
     ensures part { IsPart (across K.given K.faults output.old output.new)
         (wrong_lines_at files.now file) (wrong_count_at files.now file) result }
-    ensures over { G.linked linking.new ≡ stored files.now }
+    ensures over { G.follows linking.new ≡ all_linked (stored files.now) }
     ensures few { IfOk result (λ n. n < 4294967296) }
 {
     // A look at the files tells what holds of all of them.
@@ -133,10 +133,10 @@ fn give_files<G: Linking, K: Sink>(
     requires are { AreFilesOf (book_of files.now) [] files.now }
     requires stand { Each (λ n. n.0 < length files.now) numbers.now }
     requires few { length numbers.now < 4294967296 }
-    requires over { G.linked linking.old ≡ stored files.now }
+    requires over { G.follows linking.old ≡ all_linked (stored files.now) }
     ensures part { IsPart (across K.given K.faults output.old output.new)
         (lines_at files.now numbers.now) (sum_of (wrong_count_at files.now) numbers.now) result }
-    ensures over { G.linked linking.new ≡ stored files.now }
+    ensures over { G.follows linking.new ≡ all_linked (stored files.now) }
 {
     let mut told = 0;
     for number in numbers {
@@ -154,10 +154,10 @@ pub(crate) fn answer_check<G: Linking, K: Sink>(
     output: &mut K,
 ) -> Result<(), AnswerFault>
     requires whole { project.now.broken ≡ false }
-    requires over { G.linked linking.old ≡ stored project.now.files }
+    requires over { G.follows linking.old ≡ all_linked (stored project.now.files) }
     ensures answered { IsAnswered (holding_of project.now) (holding_of project.now) Asked.Check
         (across K.given K.faults output.old output.new) result }
-    ensures over { G.linked linking.new ≡ stored project.now.files }
+    ensures over { G.follows linking.new ≡ all_linked (stored project.now.files) }
 {
     let files = project.files();
     let Ok(order) = in_order(alloc, files) else {

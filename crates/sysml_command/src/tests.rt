@@ -242,6 +242,14 @@ const CYCLIC: Row = Row {
     status: Status::Done,
 };
 
+/// Names that are asked for, two of which are none.
+const FINDS: Row = Row {
+    script: b"put a.sysml 50\npackage P { part def 'a b'; part def B :> 'a b'; }\nfind P::B\nfind $::P::'a b' // x\nfind P::C\nfind \nfind P::\nend\n",
+    output: b"put a.sysml elements 3 references 1\nfind P::B -> linked a.sysml P::B\nfind $::P::'a b' -> linked a.sysml P::'a b'\nfind P::C -> absent 2\nfind bad name\nfind bad name\nend\n",
+    errors: b"",
+    status: Status::Done,
+};
+
 /// A text is longer than it may be.
 const LONG_TEXT: Row = Row {
     script: b"put a.kerml 1048577\nclass",
@@ -272,6 +280,7 @@ fn rows_are_answered_in_pieces_of_any_size(rt: HostRuntime) {
         ALL_COMMANDS,
         OTHER_ORDER,
         CYCLIC,
+        FINDS,
         LONG_TEXT,
     ];
     for (number, row) in rows.iter().enumerate() {
@@ -411,15 +420,15 @@ fn a_failing_input_leaves_the_whole_answers(rt: HostRuntime) {
     }
 }
 
-/// Whether the linked row in pieces of this size is a write fault after so many bytes of output, where the
-/// output fails at this call.
-fn is_write_fault(alloc: Global, plan: Plan, call: u64, given: usize) -> bool {
+/// Whether a row in pieces of this size is a write fault after so many bytes of output, where the output
+/// fails at this call.
+fn is_write_fault(alloc: Global, row: Row, plan: Plan, call: u64, given: usize) -> bool {
     let left = Left {
         status: Status::WriteFault,
         output: given,
         errors: 0,
     };
-    match calls_of(alloc, LINKED, b"", plan, left) {
+    match calls_of(alloc, row, b"", plan, left) {
         Some(calls) => {
             calls.input.failed.is_none()
                 && calls.output.end_at_the_fault(call)
@@ -440,7 +449,7 @@ fn a_failing_output_leaves_a_prefix(rt: HostRuntime) {
             ..STEADY
         };
         assert!(rt;
-            is_write_fault(rt.alloc(), plan, call, *given),
+            is_write_fault(rt.alloc(), LINKED, plan, call, *given),
             "call {call}"
         );
     }
@@ -459,7 +468,7 @@ fn a_failing_output_leaves_a_prefix(rt: HostRuntime) {
         let call = if is_at_an_end { calls } else { calls + 1 };
         let plan = Plan { room, ..STEADY };
         assert!(rt;
-            is_write_fault(rt.alloc(), plan, call, room),
+            is_write_fault(rt.alloc(), LINKED, plan, call, room),
             "room for {room}"
         );
     }
@@ -504,6 +513,36 @@ fn failing_errors_are_a_write_fault(rt: HostRuntime) {
         assert!(rt;
             is_unsaid(rt.alloc(), UNFINISHED, UNFINISHED.errors, plan, 22, said),
             "{errors}"
+        );
+    }
+}
+
+/// What is found is given in one piece each.
+#[test]
+fn a_failing_output_leaves_a_prefix_of_what_is_found(rt: HostRuntime) {
+    let ends = [0, 36, 69, 113, 135, 149, 163];
+    for (before, given) in ends.iter().enumerate() {
+        let call = (before as u64).saturating_add(1);
+        let plan = Plan {
+            output: call,
+            ..STEADY
+        };
+        assert!(rt;
+            is_write_fault(rt.alloc(), FINDS, plan, call, *given),
+            "call {call}"
+        );
+    }
+    // In pieces of one byte each call gives one.
+    for given in 0..167 {
+        let call = (given as u64).saturating_add(1);
+        let plan = Plan {
+            piece: 1,
+            output: call,
+            ..STEADY
+        };
+        assert!(rt;
+            is_write_fault(rt.alloc(), FINDS, plan, call, given),
+            "after {given}"
         );
     }
 }

@@ -2,7 +2,7 @@ ghost use Rattle.std.specs.Prelude.{◌≡◌, ◌<◌, ◌++◌, [], All, List,
 ghost use Rattle.element_store.specs.declared.records.Reference.{Reference};
 ghost use Rattle.token_core.specs.Reading.{IsSpellable};
 ghost use Rattle.book_model.specs.Queries.{written_in};
-ghost use Rattle.book_model.specs.Spelling.{spelt_chain, spelt_path};
+ghost use Rattle.book_model.specs.Spelling.{spelt_chain, spelt_path, written_name};
 ghost use Rattle.written_names.specs.Spellable.{AreNamesSpellable};
 
 use crate::writing::{write, write_name, write_separator};
@@ -53,6 +53,23 @@ fn write_chain(
         write_name(alloc, answer, step, language)?;
     }
     Ok(())
+}
+
+/// Appends a qualified name as it is written, spelt in a language: `$::` where that stands, and the segments
+/// of its path.
+pub fn write_qualified(
+    alloc: Global,
+    answer: &mut Vec<u8>,
+    absolute: bool,
+    path: &[Name],
+    language: Language,
+) -> Result<(), NoMemory>
+    requires { All IsSpellable path.now }
+    ensures { OnOk result (answer.new.items
+        ≡ answer.old.items ++ written_name language absolute path.now []) }
+{
+    write_start(answer, absolute)?;
+    write_path(alloc, answer, path, language)
 }
 
 /// Appends the reference of that number as it is written, spelt in the language of its file: `$::` where

@@ -1,18 +1,18 @@
 use Rattle.std.proofs.Common.{◌≡◌, ◌∙◌, ap, subst, sym}
 use Rattle.std.specs.Prelude.{None, Some, IfOk}
-use Rattle.demand_core.specs.Least.{HoldsLeast}
-use Rattle.link_model.specs.Keys.{same_key}
-use Rattle.link_model.specs.Linking.{link_meaning}
 use Rattle.book_model.specs.Outcomes.{outcome_of}
-use Rattle.book_links.proofs.SettledLaws.{copied_is, outcome_decided, outcome_held}
+use Rattle.book_links.specs.Linked.{followed, without}
+use Rattle.book_links.proofs.SettledLaws.{copied_is, linked_least, outcome_decided, outcome_held}
 use Rattle.book_links.proofs.links.BookLinksLinking.outcome.Goals as goal
 use Rattle.book_links.proofs.links.BookLinksLinking.outcome.Goals.{in-Decided, in-Cyclic, in-Open}
 
 pub returns-clause-outcome : goal.returns-clause-outcome
 returns-clause-outcome c =
     let models = c.args._models.now in
-    let engine = c.self.inside.engine in
-    let holds = subst (λ fs. HoldsLeast same_key (link_meaning fs) engine) (ap (λ l. l.files) c.self.view_is ∙ c.requires.over) c.self.invariant in
+    let inside = c.self.inside in
+    let engine = inside.kept.engine in
+    let holds = linked_least (record { files = without inside.over.files inside.closed; kept = inside.kept; roots = inside.roots }) models
+    c.self.invariant (ap followed c.self.view_is ∙ c.requires.over) in
     elim c.match-answer.branch [
       | in-Decided w ↦ subst (λ r. IfOk r (λ o. o ≡ outcome_of models c.args.reference)) (sym w.result-is)
           (copied_is w.copied.result _ (outcome_of models c.args.reference) w.copied.ensures
