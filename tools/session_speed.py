@@ -77,10 +77,34 @@ def members(count):
     return put(b'a.kerml', text) + b'check\nend\n'
 
 
+def link_of(k):
+    """A file of a chain, whose class specialises that of the file before."""
+    return b'package P%d { class A; class C :> P%d::C; }' % (k, max(k - 1, 0))
+
+
+def chain(count):
+    """A chain of files, each put and then asked for its rows."""
+    return b''.join(put(b'f%04d.kerml' % k, link_of(k)) + b'links f%04d.kerml\n' % k for k in range(count)) + b'end\n'
+
+
+def chain_edited(where):
+    """A chain of files, and then a thousand edits of one of them, each asked."""
+    def script(count):
+        k = where(count)
+        edit = put(b'f%04d.kerml' % k, link_of(k)) + b'links f%04d.kerml\n' % min(k + 1, count - 1)
+        other = put(b'other.kerml', b'package Q { class A; class B :> A; }') + b'links other.kerml\n'
+        return chain(count)[:-4] + 1_000 * (edit if k >= 0 else other) + b'end\n'
+    return script
+
+
 SCRIPTS = {
     'ambiguous rows of a file': (ambiguous, (10_000, 20_000, 40_000)),
     'small files, then the rows of each': (small_files, (256, 512, 1_024)),
     'small files, each put and asked': (small_files_each, (256, 512, 1_024)),
+    'a chain of files, each put and asked': (chain, (250, 500, 1_000)),
+    'and then 1,000 edits of its last file': (chain_edited(lambda count: count - 1), (250, 500, 1_000)),
+    'and then 1,000 edits of its middle file': (chain_edited(lambda count: count // 2), (250, 500, 1_000)),
+    'and then 1,000 edits of a file that none meets': (chain_edited(lambda count: -1), (250, 500, 1_000)),
     'files of 24 KB, then check': (checked, (250, 500, 1_000)),
     'rows of a small file again and again': (asked_again, (25_000, 50_000, 100_000)),
     'one file put into a book': (one_more, (250, 500, 1_000)),
