@@ -4,7 +4,7 @@
   make_lookup_rows.py           writes the two files
   make_lookup_rows.py --check   fails where they differ from what would be written
 
-The books are those of the worked scripts, and some for what lookups meet: generals in a circle, a diamond with a private
+The books are those of the worked scripts, 300 random ones of which the outcomes of all references are asked, and some for what lookups meet: generals in a circle, a diamond with a private
 redefinition, aliases of refused references, recursive imports with private packages, imports in a circle, an import of
 itself. Each is asked over its least links, over no link, and with references left open. The other program stands beside
 the repository, in ../shared/oracle; where it isn't, nothing is checked.
@@ -18,10 +18,12 @@ import sys
 sys.dont_write_bytecode = True
 
 from example_texts import HAS_OTHER, SHARED, STAGE, on_one_line
+from random_books import book as random_book
 
 CRATE = os.path.join(os.path.dirname(os.path.abspath(__file__)), '..', 'crates', 'lookup_rows')
 SEED = 20261201
 LEAST_OF_WORKED = 40
+RANDOM_BOOKS = 300
 if HAS_OTHER:
     from oracle.linking import Files, Linker, Links, Trail
     from oracle.model import build
@@ -212,6 +214,33 @@ def asked(book, table):
                     yield 'imported %s %s %s' % (book.place((rank, made)), name, words), answer_of(book, got, hits)
 
 
+def outcome_words(book, key):
+    """What becomes of a reference."""
+    kind, *rest = book.links.outcome(key)
+    if kind == 'linked':
+        steps, element = rest
+        return ' '.join(['linked'] + [book.place(e) for e in list(steps) + [element]])
+    if kind == 'absent':
+        return 'absent %d' % rest[0]
+    if kind == 'ambiguous':
+        return 'ambiguous %d %s %s' % (rest[0], book.place(rest[1]), book.place(rest[2]))
+    return 'hidden %d %s' % (rest[0], book.place(rest[1])) if kind == 'hidden' else 'cyclic ' + book.place(rest[0])
+
+
+def rounds_of(book):
+    """What becomes of all references, in the order of files by arrival and of numbers."""
+    places = [(book.place(key), key) for key in book.over.keys()]
+    numbered = sorted((tuple(int(n) for n in place.split(':')), place, key) for place, key in places)
+    return ['%s %s' % (place, outcome_words(book, key)) for number, place, key in numbered]
+
+
+def random_books(chance):
+    """Random books: each a list of files, now and then one of them of the library."""
+    for made in range(RANDOM_BOOKS):
+        files = [('%s.%s' % (letter, language), text) for letter, (language, text) in zip('dbac', random_book(chance))]
+        yield [(('$' + name if chance.random() < 0.15 else name), text) for name, text in files]
+
+
 def tables_of(book):
     """Which references are left open: none, each alone, two, all."""
     keys = [k for k in book.over.keys() if k in book.links.table]
@@ -245,6 +274,18 @@ def written():
             lines.append('end')
             answers.append('end')
 
+    def add_rounds(files):
+        book = Book(files)
+        if not book.whole:
+            return
+        lines.extend('%s %s %s' % (language_of(name), name, text) for name, text in files)
+        lines.extend(['rounds', 'end'])
+        answers.extend(rounds_of(book) + ['end'])
+
+    for about, files in BOOKS + list(worked_books()):
+        add_rounds(files)
+    for files in random_books(random.Random(SEED + 1)):
+        add_rounds(files)
     for about, files in BOOKS:
         add(files, tables_of, 60)
     for about, files in worked_books():

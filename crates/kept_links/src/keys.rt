@@ -39,8 +39,8 @@ pub(crate) fn push_file(
     }
 }
 
-/// The references of all files.
-pub(crate) fn keys_of(alloc: Global, models: &Models) -> Result<Vec<LinkKey>, NoMemory>
+/// The references of all files, in the order of files and of their numbers: the keys of the rules of links.
+pub fn keys_of(alloc: Global, models: &Models) -> Result<Vec<LinkKey>, NoMemory>
     ensures { IfOk result (λ keys. keys.items ≡ keys_of models.now) }
 {
     let mut keys = Vec::new(alloc);

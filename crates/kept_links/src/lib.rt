@@ -10,3 +10,4 @@ mod pending;
 
 pub use copying::copied;
 pub use kept::KeptLinks;
+pub use keys::keys_of;

@@ -14,7 +14,7 @@ use model_build::build;
 const LONGEST: usize = 16_777_216;
 
 /// The most files of a book.
-const MOST_FILES: u32 = 100;
+const MOST_FILES: u32 = 256;
 
 /// Whether a file has that name.
 fn is_there(models: &Models, name: &Text) -> bool

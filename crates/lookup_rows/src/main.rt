@@ -3,18 +3,21 @@
 //!
 //! It reads lines. `kerml NAME TEXT` and `sysml NAME TEXT` add a file to the book, where a NAME that begins with `$` is one
 //! of the library; `link REFERENCE ELEMENT` and `refuse REFERENCE` decide a reference, and all others are open. Each other
-//! line asks a lookup. `end` answers the lines so far, in order, and begins a new book. A place is the number of a file,
+//! line asks a lookup; `rounds` decides all references by plain rounds over the rules of links, whatever was told of them,
+//! and `askings` says how often one is asked then. `end` answers the lines so far, in order, and begins a new book. A place is the number of a file,
 //! a colon, and a number in the file.
 #![tactic(auto)]
 
 mod asking;
 mod books;
 mod places;
+mod rounds;
 mod words;
 
 use asking::answer;
 use books::{models_of, table_of};
 use link_model::View;
+use rounds::{count_all, decide_all};
 use std::process::ExitCode;
 
 /// Answers the lines of one book.
@@ -26,7 +29,11 @@ fn answer_all(rt: &HostRuntime, lines: &[String]) -> Option<()> {
         table: &table,
     };
     for line in lines {
-        answer(rt, &view, line)?;
+        match line.as_str() {
+            "rounds" => decide_all(rt, &models)?,
+            "askings" => count_all(rt, &models)?,
+            _ => answer(rt, &view, line)?,
+        }
     }
     Some(())
 }

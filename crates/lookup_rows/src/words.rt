@@ -1,5 +1,5 @@
 use demand_core::Fact;
-use element_store::{ElementNo, Elements, RefNo};
+use element_store::{ElementNo, Elements, Outcome, RefNo};
 use link_model::{Hit, LinkFact, LinkKey, LinkLooks};
 use link_walk::{Found, Hits};
 use std::alloc::Global;
@@ -108,4 +108,33 @@ pub(crate) fn write_settled(rt: &HostRuntime, elements: &Elements) -> Option<()>
     print!(rt; "found").ok()?;
     write_words(rt, element_words(rt.alloc(), elements.as_slice())?)?;
     println!(rt; "").ok()
+}
+
+/// Writes that a reference is linked to an element, behind the steps of its chain.
+fn write_linked(rt: &HostRuntime, steps: &[ElementNo], element: ElementNo) -> Option<()> {
+    print!(rt; "linked").ok()?;
+    for step in steps {
+        print!(rt; " {}:{}", step.file.0, step.index).ok()?;
+    }
+    println!(rt; " {}:{}", element.file.0, element.index).ok()
+}
+
+/// Writes the end of a line: the outcome of a reference.
+pub(crate) fn write_outcome(rt: &HostRuntime, outcome: &Outcome) -> Option<()> {
+    match outcome {
+        Outcome::Linked { steps, element } => write_linked(rt, steps.as_slice(), *element),
+        Outcome::Absent { segment } => println!(rt; "absent {segment}").ok(),
+        Outcome::Ambiguous {
+            segment,
+            first,
+            second,
+        } => {
+            print!(rt; "ambiguous {segment} {}:{}", first.file.0, first.index).ok()?;
+            println!(rt; " {}:{}", second.file.0, second.index).ok()
+        }
+        Outcome::Hidden { segment, member } => {
+            println!(rt; "hidden {segment} {}:{}", member.file.0, member.index).ok()
+        }
+        Outcome::Cyclic { on } => println!(rt; "cyclic {}:{}", on.file.0, on.index).ok(),
+    }
 }
