@@ -24,7 +24,10 @@ CRATE = os.path.join(os.path.dirname(os.path.abspath(__file__)), '..', 'crates',
 SEED = 20261201
 LEAST_OF_WORKED = 40
 RANDOM_BOOKS = 300
+BOOKS_OVER_THE_LIBRARY = 8
+LIBRARY = os.path.join(os.path.dirname(os.path.abspath(__file__)), 'library')
 if HAS_OTHER:
+    from oracle.implied import implied
     from oracle.linking import Files, Linker, Links, Trail
     from oracle.model import build
 
@@ -58,6 +61,14 @@ BOOKS = [
     ('a library', [
         ('$lib/L.kerml', 'library package Base { abstract classifier Anything { feature self; } }'),
         ('u.sysml', 'part def T; part t : T;')]),
+]
+
+# Books whose implied specialisations over the library are asked.
+OVER_THE_LIBRARY = [
+    [('a.sysml', 'part def A; part def B :> A; part def C :> Parts::Part; part def D :> C;')],
+    [('n.sysml', 'enum def Color { red; green; } attribute c : Color = Color::red;')],
+    [('b.sysml', 'package P { item def A; port p; action def B { action b; } } requirement r { require constraint { true } }'),
+     ('a.kerml', 'class A; classifier B :> Base::Anything; struct S { feature f; feature g :> Base::things; } assoc T; datatype D :> S;')],
 ]
 
 
@@ -241,6 +252,17 @@ def random_books(chance):
         yield [(('$' + name if chance.random() < 0.15 else name), text) for name, text in files]
 
 
+def library_files():
+    """The library's texts, each on one line."""
+    for path in sorted(glob.glob(os.path.join(LIBRARY, '*'))):
+        yield '$lib/' + os.path.basename(path), on_one_line(open(path, 'rb').read()).decode()
+
+
+def implied_rows(book):
+    """The implied specialisations: of each the type, the member that owns it, and the base."""
+    return ['%s %s %s' % (book.place(of), book.place(book.over.owning_member(of)), book.place(base)) for of, base in implied(book.links)]
+
+
 def tables_of(book):
     """Which references are left open: none, each alone, two, all."""
     keys = [k for k in book.over.keys() if k in book.links.table]
@@ -282,6 +304,16 @@ def written():
         lines.extend(['rounds', 'end'])
         answers.extend(rounds_of(book) + ['end'])
 
+    def add_implied(files):
+        book = Book(list(library_files()) + files)
+        if not book.whole:
+            return
+        lines.extend('%s %s %s' % (language_of(name), name, text) for name, text in book.files)
+        lines.extend(book.decided(())[0] + ['implied', 'end'])
+        answers.extend(implied_rows(book) + ['end'])
+
+    for files in OVER_THE_LIBRARY + list(random_books(random.Random(SEED + 2)))[:BOOKS_OVER_THE_LIBRARY]:
+        add_implied([(name.lstrip('$'), text) for name, text in files])
     for about, files in BOOKS + list(worked_books()):
         add_rounds(files)
     for files in random_books(random.Random(SEED + 1)):

@@ -3,6 +3,7 @@ ghost use Rattle.link_walk.specs.Calls.{HasLinks};
 use crate::places::{element_at, import_at, member_at, name_of};
 use crate::words::{write_elements, write_hits, write_looks, write_one, write_settled};
 use element_store::Elements;
+use implied_rules::implied;
 use inheritance::{all_redefined, generals, settled_generals, settled_redefined, specialises};
 use inherited_names::{inherited, inherited_raw};
 use link_model::{LinkLooks, View};
@@ -129,6 +130,19 @@ fn ask_specialises(rt: &HostRuntime, view: &View, rest: &str) -> Option<()>
     let base = element_at(view.models, base)?;
     let yes = specialises(rt.alloc(), view, of, base).ok()?;
     println!(rt; "{yes}").ok()
+}
+
+/// Lists the implied specialisations: of each the type, the member that owns it, and the base.
+pub(crate) fn list_implied(rt: &HostRuntime, view: &View) -> Option<()>
+    requires links { HasLinks view.now }
+{
+    let rows = implied(rt.alloc(), view.models, view.table).ok()?;
+    for row in rows.as_slice() {
+        print!(rt; "{}:{} ", row.of.file.0, row.of.index).ok()?;
+        print!(rt; "{}:{} ", row.member.file.0, row.member.index).ok()?;
+        println!(rt; "{}:{}", row.base.file.0, row.base.index).ok()?;
+    }
+    Some(())
 }
 
 /// Answers one line, if it asks.

@@ -4,7 +4,8 @@
 //! It reads lines. `kerml NAME TEXT` and `sysml NAME TEXT` add a file to the book, where a NAME that begins with `$` is one
 //! of the library; `link REFERENCE ELEMENT` and `refuse REFERENCE` decide a reference, and all others are open. Each other
 //! line asks a lookup; `rounds` decides all references by plain rounds over the rules of links, whatever was told of them,
-//! and `askings` says how often one is asked then. `end` answers the lines so far, in order, and begins a new book. A place is the number of a file,
+//! and `askings` says how often one is asked then; `implied` lists the implied specialisations over the links that are
+//! told. `end` answers the lines so far, in order, and begins a new book. A place is the number of a file,
 //! a colon, and a number in the file.
 #![tactic(auto)]
 
@@ -14,7 +15,7 @@ mod places;
 mod rounds;
 mod words;
 
-use asking::answer;
+use asking::{answer, list_implied};
 use books::{models_of, table_of};
 use link_model::View;
 use rounds::{count_all, decide_all};
@@ -32,6 +33,7 @@ fn answer_all(rt: &HostRuntime, lines: &[String]) -> Option<()> {
         match line.as_str() {
             "rounds" => decide_all(rt, &models)?,
             "askings" => count_all(rt, &models)?,
+            "implied" => list_implied(rt, &view)?,
             _ => answer(rt, &view, line)?,
         }
     }
