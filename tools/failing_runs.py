@@ -20,7 +20,7 @@ HERE = os.path.dirname(os.path.abspath(__file__))
 PROGRAM = os.path.join(HERE, '..', 'crates', 'sysml', 'out', 'sysml')
 MOST_RUNS = 1200
 READ_FAULT, WRITE_FAULT, NO_MEMORY, NO_WORDS = 3, 4, 5, 8
-SAID = {READ_FAULT: b'read fault\n', WRITE_FAULT: b'write fault\n', NO_MEMORY: b'no memory\n'}
+SAID = {READ_FAULT: b'read fault\n', WRITE_FAULT: b'', NO_MEMORY: b'no memory\n'}
 
 
 def put(name, text):
