@@ -1,5 +1,5 @@
--- Implied specialisations of a project (KerML 8.4.2): a type specialises the base of its kind, or an enumerated value the
--- enumeration that owns it, where no chain of its own specialisations leads there.
+-- Implied specialisations of a project (KerML 8.4.2): a type specialises the base of its kind, or an enumerated value
+-- the enumeration that owns it, where no chain of its own specialisations leads there.
 use Rattle.std.specs.Prelude.{◌≡◌, ℕ, ◌<◌, cond, get_or, not, List, [], length, map, slice_get, Some}
 use Rattle.std.specs.List.{flat_map}
 use Rattle.linker_base.specs.Members.{IsMember}
