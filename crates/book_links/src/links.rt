@@ -135,7 +135,7 @@ impl Linking for BookLinks {
         }
     }
 
-    fn outcome(&mut self, _models: &Models, reference: RefNo) -> Result<Outcome, NoMemory> {
+    fn outcome(&self, _models: &Models, reference: RefNo) -> Result<Outcome, NoMemory> {
         match self.kept.answer(LinkKey(reference)) {
             Answer::Decided(outcome) => copied(self.alloc, outcome),
             Answer::Cyclic(on) => Ok(Outcome::Cyclic { on: on.0 }),
@@ -143,7 +143,7 @@ impl Linking for BookLinks {
         }
     }
 
-    fn find(&mut self, models: &Models, path: Segments) -> Result<Outcome, NoMemory> {
+    fn find(&self, models: &Models, path: Segments) -> Result<Outcome, NoMemory> {
         found(self.alloc, models, &self.roots, &self.kept, path)
     }
 }

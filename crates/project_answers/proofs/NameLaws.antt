@@ -197,3 +197,15 @@ module _ (words : List ℕ) (tokens : List Token) (short : length words < 2 ^ 32
   pub name_asked : {E : Type 0} (r : Result (Option AskedName) E) → IfOk r (λ n. n ≡ name_by words tokens) → IfOk r (AskFor words)
   name_asked (Ok n) e = record { lexed = Ok tokens; lexes = lexed; answered = λ f. cc; stands = e }
   name_asked (Err f) e = tt
+
+-- THE NAME of tokens can be spelt
+pub name_spells : {E : Type 0} (words : List ℕ) (tokens : List Token) → AreTokensOf words tokens → (r : Result (Option AskedName) E)
+    → IfOk r (λ n. n ≡ name_by words tokens) → IfOk r (λ n. IfSome n (λ x. All IsSpellable x.path))
+name_spells words tokens are (Err f) e = tt
+name_spells words tokens are (Ok n) e =
+    subst (λ (o : Option AskedName). IfSome o (λ x. All IsSpellable x.path)) (sym e) (by (path_from false words (path_tokens tokens)) refl)
+  where
+    by : (o : Option (List (List ℕ))) → path_from false words (path_tokens tokens) ≡ o
+        → IfSome (option_map (λ path. record { absolute = is_absolute tokens; path = path }) o) (λ (x : AskedName). All IsSpellable x.path)
+    by None e = tt
+    by (Some names) e = (path_fair words (path_tokens tokens) (path_tokens_of words tokens are) false names e).spellable

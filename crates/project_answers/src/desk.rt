@@ -116,7 +116,7 @@ impl<G: Linking> Answering for Desk<G> {
             Ok(()) => answer_links(
                 self.alloc,
                 &self.project,
-                &mut self.linking,
+                &self.linking,
                 name,
                 file,
                 output,
@@ -127,7 +127,7 @@ impl<G: Linking> Answering for Desk<G> {
 
     fn check<K: Sink>(&mut self, output: &mut K) -> Result<(), AnswerFault> {
         match self.link() {
-            Ok(()) => answer_check(self.alloc, &self.project, &mut self.linking, output),
+            Ok(()) => answer_check(self.alloc, &self.project, &self.linking, output),
             Err(_) => Err(AnswerFault::NoMemory),
         }
     }
@@ -140,7 +140,7 @@ impl<G: Linking> Answering for Desk<G> {
                 Ok(()) => answer_find(
                     self.alloc,
                     &self.project,
-                    &mut self.linking,
+                    &self.linking,
                     words,
                     name,
                     output,

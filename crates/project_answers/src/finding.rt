@@ -37,13 +37,12 @@ pub(crate) fn answer_bad_name<K: Sink>(
 fn find_line<G: Linking>(
     alloc: Global,
     files: &ProjectFiles,
-    linking: &mut G,
+    linking: &G,
     name: AskedName,
 ) -> Result<Vec<u8>, NoMemory>
     requires good { IsGoodName name }
-    requires over { G.follows linking.old ≡ all_linked (stored files.now) }
-    ensures line { IfOk result (λ line. line.items ≡ find_answer files.now (Some name)) }
-    ensures over { G.follows linking.new ≡ all_linked (stored files.now) }
+    requires over { G.follows linking.now ≡ all_linked (stored files.now) }
+    ensures { IfOk result (λ line. line.items ≡ find_answer files.now (Some name)) }
 {
     let AskedName { absolute, path } = name;
     let mut line = Vec::from_slice(alloc, b"find ")?;
@@ -61,7 +60,7 @@ fn find_line<G: Linking>(
 pub(crate) fn answer_find<G: Linking, K: Sink>(
     alloc: Global,
     project: &Project,
-    linking: &mut G,
+    linking: &G,
     words: &Text,
     name: AskedName,
     output: &mut K,
@@ -69,10 +68,9 @@ pub(crate) fn answer_find<G: Linking, K: Sink>(
     requires whole { project.now.broken ≡ false }
     requires asked { AskFor words.now (Some name) }
     requires good { IsGoodName name }
-    requires over { G.follows linking.old ≡ all_linked (stored project.now.files) }
-    ensures answered { IsAnswered (holding_of project.now) (holding_of project.now)
+    requires over { G.follows linking.now ≡ all_linked (stored project.now.files) }
+    ensures { IsAnswered (holding_of project.now) (holding_of project.now)
         (Asked.Find words.now) (across K.given K.faults output.old output.new) result }
-    ensures over { G.follows linking.new ≡ all_linked (stored project.now.files) }
 {
     match find_line(alloc, project.files(), linking, name) {
         Ok(line) => give_piece(output, &line),

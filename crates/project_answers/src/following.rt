@@ -8,7 +8,7 @@ use element_store::{FileName, FileNo};
 use project_book::Project;
 
 /// The number of the file under a name. A new name will have the number after the last one.
-pub(crate) fn place_of(project: &Project, name: &FileName) -> FileNo
+pub fn place_of(project: &Project, name: &FileName) -> FileNo
     ensures { result.0 ≡ number_under project.now.files name.now }
 {
     match project.number(name) {
@@ -19,7 +19,7 @@ pub(crate) fn place_of(project: &Project, name: &FileName) -> FileNo
 
 /// Follows the going of the text of a file, if it is one of the project's. Says whether the links still
 /// follow.
-pub(crate) fn close<G: Linking>(linking: &mut G, project: &Project, file: FileNo) -> bool
+pub fn close<G: Linking>(linking: &mut G, project: &Project, file: FileNo) -> bool
     requires { (G.follows linking.old).files ≡ stored project.now.files }
     ensures { result ≡ true
         → (G.follows linking.new).files ≡ with_model (stored project.now.files) file.0 None }
@@ -33,7 +33,7 @@ pub(crate) fn close<G: Linking>(linking: &mut G, project: &Project, file: FileNo
 
 /// Follows the coming of the text of a file, if it is one of the project's now. Says whether the links still
 /// follow.
-pub(crate) fn open<G: Linking>(linking: &mut G, project: &Project, file: FileNo) -> bool
+pub fn open<G: Linking>(linking: &mut G, project: &Project, file: FileNo) -> bool
     requires { FollowedBefore (G.follows linking.old).files project.now.files file }
     ensures { result ≡ true → (G.follows linking.new).files ≡ stored project.now.files }
 {

@@ -46,17 +46,15 @@ pub trait Linking: Drop {
 
     /// What becomes of a reference of these files: its entry in the least linking, or the reference on which
     /// it is cyclic.
-    fn outcome(&mut self, models: &Models, reference: RefNo) -> Result<Outcome, NoMemory>
-        requires over { follows self.old ≡ all_linked models.now }
+    fn outcome(&self, models: &Models, reference: RefNo) -> Result<Outcome, NoMemory>
+        requires over { follows self.now ≡ all_linked models.now }
         requires stands { IsMember (keys_of models.now) (record { 0 = reference }) }
-        ensures outcome { IfOk result (λ outcome. outcome ≡ outcome_of models.now reference) }
-        ensures over { follows self.new ≡ all_linked models.now };
+        ensures { IfOk result (λ outcome. outcome ≡ outcome_of models.now reference) };
 
     /// What a qualified name finds from outside, as from a project file, over the least linking of these files.
-    fn find(&mut self, models: &Models, path: Segments) -> Result<Outcome, NoMemory>
-        requires over { follows self.old ≡ all_linked models.now }
+    fn find(&self, models: &Models, path: Segments) -> Result<Outcome, NoMemory>
+        requires over { follows self.now ≡ all_linked models.now }
         requires some { 0 < length path }
         requires few { length path < 4294967296 }
-        ensures outcome { IfOk result (λ outcome. outcome ≡ found_of models.now path) }
-        ensures over { follows self.new ≡ all_linked models.now };
+        ensures { IfOk result (λ outcome. outcome ≡ found_of models.now path) };
 }

@@ -16,7 +16,7 @@ use std::alloc::Global;
 use sysml_session::{AnswerFault, give_piece};
 
 /// The number of the file under a name, if its text is present.
-pub(crate) fn present(project: &Project, name: &FileName) -> Option<FileNo>
+pub fn present(project: &Project, name: &FileName) -> Option<FileNo>
     ensures { IsPresentAt project.now.files name.now result }
 {
     match project.number(name) {
@@ -65,17 +65,16 @@ fn rows_line(alloc: Global, name: &FileName, count: usize) -> Result<Vec<u8>, No
 pub(crate) fn answer_links<G: Linking, K: Sink>(
     alloc: Global,
     project: &Project,
-    linking: &mut G,
+    linking: &G,
     name: &FileName,
     file: FileNo,
     output: &mut K,
 ) -> Result<(), AnswerFault>
     requires whole { project.now.broken ≡ false }
     requires present { IsPresentAt project.now.files name.now (Some file) }
-    requires over { G.follows linking.old ≡ all_linked (stored project.now.files) }
-    ensures answered { IsAnswered (holding_of project.now) (holding_of project.now)
+    requires over { G.follows linking.now ≡ all_linked (stored project.now.files) }
+    ensures { IsAnswered (holding_of project.now) (holding_of project.now)
         (Asked.Links name.now) (across K.given K.faults output.old output.new) result }
-    ensures over { G.follows linking.new ≡ all_linked (stored project.now.files) }
 {
     let files = project.files();
     // A look at the models tells what holds of all files.

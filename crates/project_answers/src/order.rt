@@ -8,8 +8,9 @@ use linker_base::NoMemory;
 use project_files::ProjectFiles;
 use std::alloc::Global;
 
-/// The numbers of all files of a book, in the byte order of their names.
-pub(crate) fn in_order(alloc: Global, files: &ProjectFiles) -> Result<Vec<FileNo>, NoMemory>
+/// The numbers of all files of a book, in the byte order of their names; those whose text is gone are among
+/// them. The answer has one entry for each file.
+pub fn in_order(alloc: Global, files: &ProjectFiles) -> Result<Vec<FileNo>, NoMemory>
     requires { AreFilesOf (book_of files.now) [] files.now }
     ensures ranked { IfOk result (λ order. presents files.now order.items ≡ ranked files.now) }
     ensures stand { IfOk result (λ order. Each (λ n. n.0 < length files.now) order.items) }

@@ -30,17 +30,16 @@ pub(crate) enum Listing {
     Faults,
 }
 
-/// The row of a reference.
-fn row_of<G: Linking>(
+/// The row of a reference: its role, the place of its first token, and what became of it.
+pub fn row_of<G: Linking>(
     files: &ProjectFiles,
-    linking: &mut G,
+    linking: &G,
     reference: RefNo,
 ) -> Result<LinkRow, NoMemory>
     requires stands { IsLiveReference files.now reference }
-    requires over { G.follows linking.old ≡ all_linked (stored files.now) }
+    requires over { G.follows linking.now ≡ all_linked (stored files.now) }
     ensures row { IfOk result (λ row. row ≡ row_at files.now reference) }
     ensures names { IfOk result (λ row. NamesLive files.now row.outcome) }
-    ensures over { G.follows linking.new ≡ all_linked (stored files.now) }
 {
     // A look at the files tells what holds of all of them.
     let _ = files.models().files();
@@ -131,17 +130,16 @@ fn give_listed<K: Sink>(
 fn give_line<G: Linking, K: Sink>(
     alloc: Global,
     files: &ProjectFiles,
-    linking: &mut G,
+    linking: &G,
     listing: Listing,
     reference: RefNo,
     output: &mut K,
 ) -> Result<usize, AnswerFault>
     requires stands { IsLiveReference files.now reference }
-    requires over { G.follows linking.old ≡ all_linked (stored files.now) }
-    ensures part { IsPart (across K.given K.faults output.old output.new)
+    requires over { G.follows linking.now ≡ all_linked (stored files.now) }
+    ensures { IsPart (across K.given K.faults output.old output.new)
         (line_of listing files.now (row_at files.now reference))
         (count_of listing (row_at files.now reference)) result }
-    ensures over { G.follows linking.new ≡ all_linked (stored files.now) }
 {
     match row_of(files, linking, reference) {
         Ok(row) => {
@@ -159,18 +157,17 @@ fn give_line<G: Linking, K: Sink>(
 fn give_lines<G: Linking, K: Sink>(
     alloc: Global,
     files: &ProjectFiles,
-    linking: &mut G,
+    linking: &G,
     listing: Listing,
     file: FileNo,
     spots: &[Spot],
     output: &mut K,
 ) -> Result<usize, AnswerFault>
     requires stand { Each (λ s. IsLiveReference files.now (reference_at file s)) spots.now }
-    requires over { G.follows linking.old ≡ all_linked (stored files.now) }
+    requires over { G.follows linking.now ≡ all_linked (stored files.now) }
     ensures part { IsPart (across K.given K.faults output.old output.new)
         (lines_of listing files.now file spots.now)
         (counts_of listing files.now file spots.now) result }
-    ensures over { G.follows linking.new ≡ all_linked (stored files.now) }
     ensures few { IfOk result (λ n. n ≤ length spots.now) }
 {
     let mut told = 0;
@@ -189,16 +186,15 @@ fn give_lines<G: Linking, K: Sink>(
 pub(crate) fn give_rows<G: Linking, K: Sink>(
     alloc: Global,
     files: &ProjectFiles,
-    linking: &mut G,
+    linking: &G,
     listing: Listing,
     file: FileNo,
     output: &mut K,
 ) -> Result<usize, AnswerFault>
     requires has { (d : Data) × HasModel files.now file d }
-    requires over { G.follows linking.old ≡ all_linked (stored files.now) }
+    requires over { G.follows linking.now ≡ all_linked (stored files.now) }
     ensures part { IsPart (across K.given K.faults output.old output.new)
         (file_lines listing files.now file) (file_counts listing files.now file) result }
-    ensures over { G.follows linking.new ≡ all_linked (stored files.now) }
     ensures few { IfOk result (λ n. n < 4294967296) }
 {
     match rising(alloc, files.model(file)) {

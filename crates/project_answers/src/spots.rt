@@ -5,9 +5,9 @@ use element_store::FileModel;
 use linker_base::NoMemory;
 use std::alloc::Global;
 
-/// Where a reference stands: the place of its first token, and its number.
+/// Where a reference of a model stands: the place of its first token, in bytes of the text, and its number.
 #[derive(Clone, Copy, Debug, PartialEq, Eq)]
-pub(crate) struct Spot {
+pub struct Spot {
     pub place: u32,
     pub number: u32,
 }
@@ -27,8 +27,8 @@ fn spots(alloc: Global, model: &FileModel) -> Result<Vec<Spot>, NoMemory>
     Ok(spots)
 }
 
-/// Where the references of a model stand, in rising order of places, and then of numbers.
-pub(crate) fn rising(alloc: Global, model: &FileModel) -> Result<Vec<Spot>, NoMemory>
+/// Where the references of a model stand, in rising order of places, and then of numbers: one for each.
+pub fn rising(alloc: Global, model: &FileModel) -> Result<Vec<Spot>, NoMemory>
     ensures spots { IfOk result (λ spots. spots.items ≡ rising_spots model.now) }
     ensures few { IfOk result (λ spots. length spots.items < 4294967296) }
 {

@@ -106,8 +106,9 @@ fn path_tokens(tokens: &[Token]) -> &[Token]
     }
 }
 
-/// The qualified name that the tokens are, if they are one.
-fn name_by(alloc: Global, words: &[u8], tokens: &[Token]) -> Result<Option<AskedName>, NoMemory>
+/// The qualified name that tokens of words are, if they are one: `[ '$' '::' ] NAME { '::' NAME }` (KerML
+/// 8.2.3.5, qualified names).
+pub fn name_by(alloc: Global, words: &[u8], tokens: &[Token]) -> Result<Option<AskedName>, NoMemory>
     requires { AreTokensOf words.now tokens.now }
     ensures { IfOk result (λ name. name ≡ name_by words.now tokens.now) }
 {
@@ -118,8 +119,9 @@ fn name_by(alloc: Global, words: &[u8], tokens: &[Token]) -> Result<Option<Asked
     }
 }
 
-/// The qualified name that words are as SysML, if they are one.
-pub(crate) fn name_in(alloc: Global, words: &[u8]) -> Result<Option<AskedName>, NoMemory>
+/// The qualified name that words are as SysML, if they are one. None comes where the lexer refuses the words
+/// too.
+pub fn name_in(alloc: Global, words: &[u8]) -> Result<Option<AskedName>, NoMemory>
     requires { length words.now < 2 ^ 32 }
     ensures asked { IfOk result (λ name. AskFor words.now name) }
     ensures good { IfOk result (λ name. IfSome name IsGoodName) }

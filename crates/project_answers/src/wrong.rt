@@ -97,16 +97,15 @@ fn give_refusal<K: Sink>(
 fn give_file<G: Linking, K: Sink>(
     alloc: Global,
     files: &ProjectFiles,
-    linking: &mut G,
+    linking: &G,
     file: FileNo,
     output: &mut K,
 ) -> Result<usize, AnswerFault>
     requires are { AreFilesOf (book_of files.now) [] files.now }
     requires stands { file.0 < length files.now }
-    requires over { G.follows linking.old ≡ all_linked (stored files.now) }
+    requires over { G.follows linking.now ≡ all_linked (stored files.now) }
     ensures part { IsPart (across K.given K.faults output.old output.new)
         (wrong_lines_at files.now file) (wrong_count_at files.now file) result }
-    ensures over { G.follows linking.new ≡ all_linked (stored files.now) }
     ensures few { IfOk result (λ n. n < 4294967296) }
 {
     // A look at the files tells what holds of all of them.
@@ -126,17 +125,16 @@ fn give_file<G: Linking, K: Sink>(
 fn give_files<G: Linking, K: Sink>(
     alloc: Global,
     files: &ProjectFiles,
-    linking: &mut G,
+    linking: &G,
     numbers: &[FileNo],
     output: &mut K,
 ) -> Result<usize, AnswerFault>
     requires are { AreFilesOf (book_of files.now) [] files.now }
     requires stand { Each (λ n. n.0 < length files.now) numbers.now }
     requires few { length numbers.now < 4294967296 }
-    requires over { G.follows linking.old ≡ all_linked (stored files.now) }
-    ensures part { IsPart (across K.given K.faults output.old output.new)
+    requires over { G.follows linking.now ≡ all_linked (stored files.now) }
+    ensures { IsPart (across K.given K.faults output.old output.new)
         (lines_at files.now numbers.now) (sum_of (wrong_count_at files.now) numbers.now) result }
-    ensures over { G.follows linking.new ≡ all_linked (stored files.now) }
 {
     let mut told = 0;
     for number in numbers {
@@ -150,14 +148,13 @@ fn give_files<G: Linking, K: Sink>(
 pub(crate) fn answer_check<G: Linking, K: Sink>(
     alloc: Global,
     project: &Project,
-    linking: &mut G,
+    linking: &G,
     output: &mut K,
 ) -> Result<(), AnswerFault>
     requires whole { project.now.broken ≡ false }
-    requires over { G.follows linking.old ≡ all_linked (stored project.now.files) }
-    ensures answered { IsAnswered (holding_of project.now) (holding_of project.now) Asked.Check
+    requires over { G.follows linking.now ≡ all_linked (stored project.now.files) }
+    ensures { IsAnswered (holding_of project.now) (holding_of project.now) Asked.Check
         (across K.given K.faults output.old output.new) result }
-    ensures over { G.follows linking.new ≡ all_linked (stored project.now.files) }
 {
     let files = project.files();
     let Ok(order) = in_order(alloc, files) else {

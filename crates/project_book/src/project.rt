@@ -70,8 +70,9 @@ impl Project {
         self.broken
     }
 
-    /// The bytes of all present texts after a put of so many bytes, or the number that it would pass.
-    fn bytes_after(&self, name: &FileName, size: usize) -> Result<usize, u64>
+    /// The bytes of all present texts after a put of so many bytes under a name, or the number of the book that
+    /// it would pass.
+    pub fn bytes_after(&self, name: &FileName, size: usize) -> Result<usize, u64>
         ensures { IsRoomFor (book_of self.now.files) name.now size result }
     {
         if size > FILE_BYTES {

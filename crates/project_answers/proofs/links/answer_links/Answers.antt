@@ -19,8 +19,8 @@ give_rows-requires-clause-has g c =
     subst (λ fs. (d : Data) × HasModel fs c.args.file d) (sym c.files-files.ensures.lent)
     (present_model c.args.project.now.files c.args.name.now c.args.file c.requires.present)
 
-pub returns-in_err-count-clause-answered : goal.returns-in_err-count-clause-answered
-returns-in_err-count-clause-answered g c =
+pub returns-in_err-count : goal.returns-in_err-count
+returns-in_err-count g c =
     let held = c.args.project.now in
     let output = across g.K.Sink.given g.K.Sink.faults c.args.output.now c.give_rows.new.output in
     let e = c.in_err-count.field-0.0 in
@@ -30,8 +30,8 @@ returns-in_err-count-clause-answered g c =
     (subst (λ fs. IsPart output (file_lines Everything fs c.args.file) (file_counts Everything fs c.args.file) (Err e)) c.files-files.ensures.lent
     c.in_err-count.ensures.part))
 
-pub returns-in-Ok-clause-answered : goal.returns-in-Ok-clause-answered
-returns-in-Ok-clause-answered g c =
+pub returns-in-Ok : goal.returns-in-Ok
+returns-in-Ok g c =
     let held = c.args.project.now in
     let output = across g.K.Sink.given g.K.Sink.faults c.args.output.now c.give_rows.new.output in
     let k = c.in_ok-count.count in
@@ -42,8 +42,8 @@ returns-in-Ok-clause-answered g c =
     c.in_ok-count.ensures.part)
     (c.deref.ensures.value ∙ c.in-Ok.ensures) c.give_piece.ensures
 
-pub returns-in-Err-clause-answered : goal.returns-in-Err-clause-answered
-returns-in-Err-clause-answered g c =
+pub returns-in-Err : goal.returns-in-Err
+returns-in-Err g c =
     let held = c.args.project.now in
     let output = across g.K.Sink.given g.K.Sink.faults c.args.output.now c.give_rows.new.output in
     let k = c.in_ok-count.count in

@@ -11,14 +11,13 @@ returns-in_err-told-clause-part g c =
     (IsPart (across g.K.Sink.given g.K.Sink.faults c.args.output.now c.give_line.new.output) (lines_of c.args.listing files c.args.file c.args.spots.now)
     (counts_of c.args.listing files c.args.file c.args.spots.now)) c.from_residual.ensures.1
     (given_failed (spot_line c.args.listing files c.args.file) (spot_count c.args.listing files c.args.file) _ _ _ c.args.spots.now c.loop-spot.spot-index
-    c.loop-spot.told c.in_err-told.field-0.0 _ c.loop-spot-test.true c.loop-spot.invariant.given c.in_err-told.ensures.part)
+    c.loop-spot.told c.in_err-told.field-0.0 _ c.loop-spot-test.true c.loop-spot.invariant.given c.in_err-told.ensures)
 
 pub loop-spot-preserved : goal.loop-spot-preserved
 loop-spot-preserved g c =
     let files = c.args.files.now in
     record {
       given = given_more (spot_line c.args.listing files c.args.file) (spot_count c.args.listing files c.args.file) _ _ _ c.args.spots.now
-          c.loop-spot.spot-index c.loop-spot.told c.in_ok-told.field-0 _ c.loop-spot-test.true c.loop-spot.invariant.given c.in_ok-told.ensures.part;
-      over = c.in_ok-told.ensures.over;
-      few = few_more c.args.listing _ c.loop-spot.told c.loop-spot.spot-index c.in_ok-told.field-0 c.loop-spot.invariant.few c.in_ok-told.ensures.part.0;
+          c.loop-spot.spot-index c.loop-spot.told c.in_ok-told.field-0 _ c.loop-spot-test.true c.loop-spot.invariant.given c.in_ok-told.ensures;
+      few = few_more c.args.listing _ c.loop-spot.told c.loop-spot.spot-index c.in_ok-told.field-0 c.loop-spot.invariant.few c.in_ok-told.ensures.0;
     }

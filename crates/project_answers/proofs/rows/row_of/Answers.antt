@@ -17,9 +17,9 @@ returns-clause-row g c =
     row_made c.args.files.now c.args.reference c.reference.result.now.role c.reference_place-place.result c.in_ok-outcome.outcome
     (role_read c.args.files.now c.args.reference c.reference.result.now
     (ap (λ d. slice_get d.references c.args.reference.index) (sym c.model.ensures.model) ∙ c.reference.ensures.lent))
-    c.reference_place-place.ensures (c.in_ok-outcome.ensures.outcome ∙ ap (λ s. outcome_of s c.args.reference) c.models-2.ensures)
+    c.reference_place-place.ensures (c.in_ok-outcome.ensures ∙ ap (λ s. outcome_of s c.args.reference) c.models-2.ensures)
 
 pub returns-clause-names : goal.returns-clause-names
 returns-clause-names g c =
-    subst (NamesLive c.args.files.now) (sym (c.in_ok-outcome.ensures.outcome ∙ ap (λ s. outcome_of s c.args.reference) c.models-2.ensures))
+    subst (NamesLive c.args.files.now) (sym (c.in_ok-outcome.ensures ∙ ap (λ s. outcome_of s c.args.reference) c.models-2.ensures))
     (names_live c.args.files.now c.args.reference (subst AreFiles c.models.ensures c.files.ensures.kept) c.requires.stands)

@@ -5,8 +5,8 @@ use Rattle.project_answers.specs.Wrong.{lines_at, wrong_count_at, wrong_lines_at
 use Rattle.project_answers.proofs.PartLaws.{given_failed, given_more, passed_on}
 use Rattle.project_answers.proofs.wrong.give_files.Goals as goal
 
-pub returns-in_err-told-clause-part : goal.returns-in_err-told-clause-part
-returns-in_err-told-clause-part g c =
+pub returns-in_err-told : goal.returns-in_err-told
+returns-in_err-told g c =
     let files = c.args.files.now in
     let numbers = c.args.numbers.now in
     passed_on c.from_residual.result c.in_err-told.field-0.0
@@ -23,6 +23,5 @@ loop-number-preserved g c =
     record {
       given = given_more (wrong_lines_at files) (wrong_count_at files) _ _ _ c.args.numbers.now c.loop-number.number-index c.loop-number.told
           c.in_ok-told.field-0 _ c.loop-number-test.true c.loop-number.invariant.given c.in_ok-told.ensures.part;
-      over = c.in_ok-told.ensures.over;
       few = omega (arith, few, more);
     }

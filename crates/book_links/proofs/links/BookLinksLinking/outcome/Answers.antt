@@ -6,8 +6,8 @@ use Rattle.book_links.proofs.SettledLaws.{copied_is, linked_least, outcome_decid
 use Rattle.book_links.proofs.links.BookLinksLinking.outcome.Goals as goal
 use Rattle.book_links.proofs.links.BookLinksLinking.outcome.Goals.{in-Decided, in-Cyclic, in-Open}
 
-pub returns-clause-outcome : goal.returns-clause-outcome
-returns-clause-outcome c =
+pub returns : goal.returns
+returns c =
     let models = c.args._models.now in
     let inside = c.self.inside in
     let engine = inside.kept.engine in
