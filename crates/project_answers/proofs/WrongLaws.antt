@@ -35,7 +35,7 @@ use Rattle.project_answers.proofs.RowLaws.{content_file, content_model, rows_wro
 -- ---- the present file at a number
 
 -- the file of a content is present
-present_is : (files : List ProjectFile) (n : FileNo) (c : Content) → AreFilesOf (book_of files) [] files → content_at files n ≡ Some c
+pub present_is : (files : List ProjectFile) (n : FileNo) (c : Content) → AreFilesOf (book_of files) [] files → content_at files n ≡ Some c
     → present_at files n ≡ record { name = name_at files n; content = c } ∷ []
 present_is files n c are at =
     let f = content_file files n c at in
@@ -45,7 +45,7 @@ present_is files n c are at =
     ∙ (ap (present_by f.0.name false) f.2 ∙ ap (λ name. record { name = name; content = c } ∷ []) name))
 
 -- one without a content isn't
-present_isnt : (files : List ProjectFile) (n : FileNo) → content_at files n ≡ None → present_at files n ≡ []
+pub present_isnt : (files : List ProjectFile) (n : FileNo) → content_at files n ≡ None → present_at files n ≡ []
 present_isnt files n none = by (slice_get files n.0) refl where
   gone : (name : List ℕ) (library : Bool) (c : Option Content) → c ≡ None → present_by name library c ≡ []
   gone name true c e = refl
@@ -91,7 +91,7 @@ refused_content (Some c) fault place e = by c.reading refl where
 -- ---- what is wrong with a file
 
 -- what is wrong with the file of a content
-wrong_is : (files : List ProjectFile) (n : FileNo) (c : Content) → AreFilesOf (book_of files) [] files → content_at files n ≡ Some c
+pub wrong_is : (files : List ProjectFile) (n : FileNo) (c : Content) → AreFilesOf (book_of files) [] files → content_at files n ≡ Some c
     → wrong_at files n ≡ faults_by (links_over files) (name_at files n) c.text c.reading
 wrong_is files n c are at = ap (flat_map (wrong_with files)) (present_is files n c are at) ∙ append-nil _
 
@@ -133,7 +133,7 @@ report_model files n elements references report =
 -- ---- all files
 
 -- what is wrong with files, file after file
-wrong_all : (files : List ProjectFile) (ns : List FileNo) → flat_map (wrong_with files) (presents files ns) ≡ flat_map (wrong_at files) ns
+pub wrong_all : (files : List ProjectFile) (ns : List FileNo) → flat_map (wrong_with files) (presents files ns) ≡ flat_map (wrong_at files) ns
 wrong_all files [] = refl
 wrong_all files (n ∷ ns) =
     told_both (wrong_with files) (present_at files n) (presents files ns) ∙ ap (λ rows. wrong_at files n ++ rows) (wrong_all files ns)
