@@ -1,0 +1,4 @@
+pub mod ListedLaws
+pub mod PairLaws
+pub mod HeldLaws
+pub mod FoundLaws
