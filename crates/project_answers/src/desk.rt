@@ -113,14 +113,7 @@ impl<G: Linking> Answering for Desk<G> {
             return answer_no_links(self.alloc, &self.project, name, output);
         };
         match self.link() {
-            Ok(()) => answer_links(
-                self.alloc,
-                &self.project,
-                &self.linking,
-                name,
-                file,
-                output,
-            ),
+            Ok(()) => answer_links(self.alloc, &self.project, &self.linking, name, file, output),
             Err(_) => Err(AnswerFault::NoMemory),
         }
     }

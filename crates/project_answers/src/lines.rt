@@ -15,6 +15,9 @@ use std::alloc::Global;
 use text_model::FileFault;
 use written_names::{write, write_number};
 
+/// Room for most lines, in bytes, which is taken at once.
+pub(crate) const ROOM: usize = 256;
+
 /// The beginning of a line: the command, and the name of the file.
 pub(crate) fn begin_line(
     alloc: Global,
@@ -23,7 +26,8 @@ pub(crate) fn begin_line(
 ) -> Result<Vec<u8>, NoMemory>
     ensures { IfOk result (λ line. line.items ≡ head_of command.now name.now) }
 {
-    let mut line = Vec::from_slice(alloc, command)?;
+    let mut line = Vec::with_capacity(alloc, ROOM)?;
+    write(&mut line, command)?;
     write(&mut line, b" ")?;
     write(&mut line, name.bytes())?;
     write(&mut line, b" ")?;

@@ -9,6 +9,7 @@ ghost use Rattle.project_answers.specs.Parts.{IsPart};
 ghost use Rattle.project_answers.specs.RowLines.{before_row, count_of, counts_of, file_counts, file_lines};
 ghost use Rattle.project_answers.specs.RowLines.{is_listed, line_of, lines_of, reference_at, row_at};
 
+use crate::lines::ROOM;
 use crate::linking::Linking;
 use crate::parts::give_counted;
 use crate::spots::{Spot, rising};
@@ -99,7 +100,7 @@ fn line(
     ensures { IfOk result (λ line. line.items
         ≡ before_row listing files.now row.now ++ row_text files.now row.now ++ codes "\n") }
 {
-    let mut line = Vec::new(alloc);
+    let mut line = Vec::with_capacity(alloc, ROOM)?;
     write_before(&mut line, files, listing, row)?;
     write_row(alloc, &mut line, files, row)?;
     write(&mut line, b"\n")?;

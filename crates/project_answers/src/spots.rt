@@ -19,7 +19,7 @@ fn spots(alloc: Global, model: &FileModel) -> Result<Vec<Spot>, NoMemory>
 {
     // A look at a model tells what holds of every model.
     let _ = model.elements();
-    let mut spots = Vec::new(alloc);
+    let mut spots = Vec::with_capacity(alloc, model.references() as usize)?;
     for number in 0..model.references() {
         let place = model.place_of_reference(number);
         spots.push(Spot { place, number })?;
