@@ -25,11 +25,13 @@ SEED = 20261201
 LEAST_OF_WORKED = 40
 RANDOM_BOOKS = 300
 BOOKS_OVER_THE_LIBRARY = 8
+VALUE_BOOKS = 40
 LIBRARY = os.path.join(os.path.dirname(os.path.abspath(__file__)), 'library')
 if HAS_OTHER:
     from oracle.implied import implied
     from oracle.linking import Files, Linker, Links, Trail
     from oracle.model import build
+    from oracle.values import Values
 
 # Books of one file or more: what each is about, and its files in the order in which they arrive.
 BOOKS = [
@@ -263,6 +265,72 @@ def implied_rows(book):
     return ['%s %s %s' % (book.place(of), book.place(book.over.owning_member(of)), book.place(base)) for of, base in implied(book.links)]
 
 
+OPERATORS = ['implies', 'or', '|', 'xor', 'and', '&', '==', '!=', '<', '>', '<=', '>=', '+', '-', '*', '/', '%']
+OPERANDS = ['7', 'true', '"text"', 'E::red', 'null']
+GREATEST = 9223372036854775807
+
+
+def pairs_of_kinds():
+    """Each operator over operands of each pair of kinds, and each unary one over each kind."""
+    texts = ['%s %s %s' % (left, operator, right) for operator in OPERATORS for left in OPERANDS for right in OPERANDS]
+    return texts + ['%s %s' % (operator, part) for operator in ('not', '-', '+') for part in OPERANDS]
+
+
+def edges():
+    """Results at the edges of 64 bits, refusals in both orders, and branches that aren't read."""
+    least = '(- %d - 1)' % GREATEST
+    texts = ['%d + 1' % GREATEST, '%d + 0' % GREATEST, '%s - 1' % least, '- %s' % least, '%s * 1' % least, '%s * (- 1)' % least,
+             '%s / (- 1)' % least, '%s %% (- 1)' % least, '%d * %d' % (GREATEST, GREATEST), '7 / 2', '8 / 2', '(- 8) / 2', '(- 7) % 2',
+             '7 % (- 2)', '7 / 0', '7 % 0', '0 / 7', '(7 / 0) + (true + 1)', '(true + 1) + (7 / 0)', '(7 / 2) + (7 / 0)', '(7 / 0) + (7 / 2)',
+             'true or 7 / 0 == 1', '7 / 0 == 1 or true', 'false and 7', 'true and 7', 'false implies 7', 'true implies 7', 'true or 7',
+             'false or 7', 'if true ? 1 else 7 / 0', 'if false ? 7 / 0 else 2', 'if 1 ? 2 else 3', 'if 7 / 0 == 1 ? 2 else 3',
+             'if true ? 7 / 0 else 1', 'not (1 == 2) and 3 < 4', '1 + 2 * 3 - 4', '(1 + 2) * 3', '"a" + "b" == "ab"', '"a" < "b"']
+    return texts + ['if true ? 1 else a0', 'nowhere', '1 + nowhere', 'false and nowhere', 'D', 'E::red == E::red', 'E::red == E::green']
+
+
+def random_expression(chance, depth, names):
+    """An expression over small numbers, truth values and names."""
+    kind = chance.random()
+    if depth == 0 or kind < 0.15:
+        return chance.choice(['0', '1', '2', '7', 'true', 'false', '"t"', 'null', 'E::red'] + names)
+    part = lambda: random_expression(chance, depth - 1, names)
+    if kind < 0.25:
+        return '(%s %s)' % (chance.choice(['not', '-', '+']), part())
+    if kind < 0.35:
+        return '(if %s ? %s else %s)' % (part(), part(), part())
+    return '(%s %s %s)' % (part(), chance.choice(OPERATORS), part())
+
+
+def value_books(chance):
+    """Books of attributes with expressions, some of which name one another, and redefine one another."""
+    head = 'enum def E { red; green; } part def D; '
+    for texts in (pairs_of_kinds(), edges()):
+        yield [('v.sysml', head + ' '.join('attribute a%d = %s;' % pair for pair in enumerate(texts)))]
+    for made in range(VALUE_BOOKS):
+        names = ['a%d' % k for k in range(12)]
+        items = ['attribute %s = %s;' % (name, random_expression(chance, 3, names)) for name in names]
+        items += ['attribute b%d :>> %s;' % (k, chance.choice(names + ['b%d' % j for j in range(4)])) for k in range(4)] + ['attribute c;']
+        yield [('v.sysml', head + ' '.join(items))]
+
+
+def answer_words(book, answer):
+    """What a feature is worth, or why there is no value."""
+    kind, *rest = answer
+    if kind in ('integer', 'null'):
+        return ' '.join([kind] + [str(x) for x in rest])
+    if kind == 'boolean':
+        return 'boolean ' + ('true' if rest[0] else 'false')
+    return 'text of %d' % len(rest[0]) if kind == 'text' else '%s %s' % (kind, book.place(rest[0]))
+
+
+def asked_values(book):
+    """Each feature with its value."""
+    values = Values(book.links)
+    for e in book.elements():
+        if book.over.element(e).is_feature():
+            yield 'value ' + book.place(e), answer_words(book, values.value((e, None)))
+
+
 def tables_of(book):
     """Which references are left open: none, each alone, two, all."""
     keys = [k for k in book.over.keys() if k in book.links.table]
@@ -312,6 +380,17 @@ def written():
         lines.extend(book.decided(())[0] + ['implied', 'end'])
         answers.extend(implied_rows(book) + ['end'])
 
+    def add_values(files):
+        book = Book(files)
+        if not book.whole:
+            raise ValueError(files)
+        asked_of = list(asked_values(book))
+        lines.extend('%s %s %s' % (language_of(name), name, text) for name, text in files)
+        lines.extend(book.decided(())[0] + [question for question, answer in asked_of] + ['end'])
+        answers.extend([answer for question, answer in asked_of] + ['end'])
+
+    for files in value_books(random.Random(SEED + 3)):
+        add_values(files)
     for files in OVER_THE_LIBRARY + list(random_books(random.Random(SEED + 2)))[:BOOKS_OVER_THE_LIBRARY]:
         add_implied([(name.lstrip('$'), text) for name, text in files])
     for about, files in BOOKS + list(worked_books()):

@@ -1,6 +1,7 @@
 ghost use Rattle.link_walk.specs.Calls.{HasLinks};
 
 use crate::places::{element_at, import_at, member_at, name_of};
+use crate::values::ask_value;
 use crate::words::{write_elements, write_hits, write_looks, write_one, write_settled};
 use element_store::Elements;
 use implied_rules::implied;
@@ -158,6 +159,7 @@ pub(crate) fn answer(rt: &HostRuntime, view: &View, line: &str) -> Option<()>
         "member" => ask_member(rt, view, rest),
         "settled-generals" | "settled-redefined" => ask_settled(rt, view, word, rest),
         "specialises" => ask_specialises(rt, view, rest),
+        "value" => ask_value(rt, view, rest),
         _ => ask_tier(rt, view, word, rest),
     }
 }

@@ -4,15 +4,16 @@
 //! It reads lines. `kerml NAME TEXT` and `sysml NAME TEXT` add a file to the book, where a NAME that begins with `$` is one
 //! of the library; `link REFERENCE ELEMENT` and `refuse REFERENCE` decide a reference, and all others are open. Each other
 //! line asks a lookup; `rounds` decides all references by plain rounds over the rules of links, whatever was told of them,
-//! and `askings` says how often one is asked then; `implied` lists the implied specialisations over the links that are
-//! told. `end` answers the lines so far, in order, and begins a new book. A place is the number of a file,
-//! a colon, and a number in the file.
+//! and `askings` says how often one is asked then; `implied` lists the implied specialisations, and `value ELEMENT` tells
+//! what a feature is worth, over the links that are told. `end` answers the lines so far, in order, and begins a new book.
+//! A place is the number of a file, a colon, and a number in the file.
 #![tactic(auto)]
 
 mod asking;
 mod books;
 mod places;
 mod rounds;
+mod values;
 mod words;
 
 use asking::{answer, list_implied};
