@@ -1,6 +1,5 @@
 //! A project whose links never find memory: an edit breaks it, and then it says so to whatever is asked.
 
-ghost use Rattle.std.specs.Prelude.{[]};
 ghost use Rattle.project_answers.specs.Holds.{all_linked};
 
 use crate::{LinkedProject, QueryFault};
@@ -14,13 +13,17 @@ use std::alloc::Global;
 
 /// Links that find memory for no file.
 #[derive(Drop)]
-struct NoLinks;
+struct NoLinks {
+    followed: Models,
+}
 
 impl Linking for NoLinks {
-    ghost follows = { λ _. all_linked [] };
+    ghost follows = { λ l. all_linked l.followed };
 
-    fn none(_alloc: Global) -> Self {
-        NoLinks
+    fn none(alloc: Global) -> Self {
+        NoLinks {
+            followed: Models::new(alloc),
+        }
     }
 
     fn link(&mut self, _models: &Models) -> Result<(), NoMemory> {
