@@ -1,0 +1,11 @@
+pub mod SheetLaws
+pub mod SignLaws
+pub mod PlainLaws
+pub mod ListLaws
+pub mod EndLaws
+pub mod PartLaws
+pub mod TurnLaws
+pub mod LineLaws
+pub mod BodyLaws
+pub mod OpenLaws
+pub mod ProfileLaws

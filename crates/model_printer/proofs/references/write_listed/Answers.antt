@@ -1,0 +1,10 @@
+use Rattle.std.proofs.Common.{◌∙◌, ap}
+use Rattle.print_model.specs.Heads.{is_specialisation, references_in}
+use Rattle.model_printer.specs.Sheets.{puts}
+use Rattle.model_printer.proofs.ListLaws.{ends_is}
+use Rattle.model_printer.proofs.references.write_listed.Goals as goal
+
+pub returns : goal.returns
+returns c =
+    c.in_ok-write_list.ensures
+    ∙ ap (puts c.args.writer.now) (ends_is c.args.model.now.language (references_in c.args.model.now is_specialisation c.args.element))

@@ -1,0 +1,9 @@
+pub mod Sheets
+pub mod Signs
+pub mod Bodies
+pub mod Conditions
+pub mod Ends
+pub mod Kinds
+pub mod Lists
+pub mod Parts
+pub mod Turns
