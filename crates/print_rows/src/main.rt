@@ -28,8 +28,10 @@ fn printed(alloc: Global, language: Language, text: &[u8]) -> Option<Text> {
     if text.len() > LONGEST {
         return None;
     }
-    let model = build(alloc, FileNo(0), text, language).ok()?;
-    print(alloc, &model).ok()
+    match build(alloc, FileNo(0), text, language) {
+        Ok(model) => print(alloc, &model).ok(),
+        Err(_) => None,
+    }
 }
 
 /// Writes the canonical text, and whether what it reads back to has the same.
