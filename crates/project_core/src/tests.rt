@@ -93,8 +93,8 @@ fn leads_to(project: &Project, row: &LinkRow, label: Option<&[u8]>) -> bool
     }
 }
 
-/// Whether a row is as it should be, and the same when it is asked for alone.
-fn is_row(project: &Project, row: &LinkRow, expected: Row) -> bool
+/// Whether a row of a file is as it should be, and the same when it is asked for alone.
+fn is_row(project: &Project, row: &LinkRow, file: &[u8], expected: Row) -> bool
     requires { IsLiveRow project.now.files row.now }
 {
     let place = Place {
@@ -104,6 +104,7 @@ fn is_row(project: &Project, row: &LinkRow, expected: Row) -> bool
     row.place == place
         && project.reference_place(row.reference) == Ok(place)
         && is_text(project.text_of(row.reference), expected.written)
+        && is_text(project.file_text(row.reference.file), file)
         && leads_to(project, row, expected.label)
 }
 
@@ -117,7 +118,7 @@ fn are_rows(alloc: Global, project: &Project, name: &[u8], expected: &[Row]) -> 
     };
     for (index, row) in rows.as_slice().iter().enumerate() {
         match expected.get(index) {
-            Some(expected) if is_row(project, row, *expected) => {}
+            Some(expected) if is_row(project, row, name.bytes(), *expected) => {}
             _ => return false,
         }
     }
