@@ -6,6 +6,7 @@ cd "$(dirname "$0")"
 status=0
 python3 make_table.py --check || status=1
 python3 make_rules.py --check || status=1
+python3 make_print_rules.py --check || status=1
 python3 make_examples.py --check || status=1
 python3 make_build_examples.py --check || status=1
 python3 make_lookup_rows.py --check || status=1

@@ -1,6 +1,6 @@
 -- Numbers, texts, words and names as expressions, and the theorem: every printed expression is read back at its own level.
 use Rattle.std.proofs.Common.{◌≡◌, ℕ, ◌+◌, ◌-◌, ◌*◌, ◌/◌, ◌%◌, ◌^◌, ◌≤◌, ◌<◌, List, [], ◌∷◌, ◌++◌, refl, ap, sym, subst, ◌∙◌, arith, append-nil}
-use Rattle.std.specs.Prelude.{Option, Bool, true, false, pos, cond, codes}
+use Rattle.std.specs.Prelude.{Option, Some, Bool, true, false, pos, cond, codes}
 use Rattle.std.specs.Fmt.{decimal}
 use Rattle.std.proofs.lemmas.Fmt.{decimal_by_steps}
 use Rattle.std.proofs.lemmas.Bool.{lt-leb}
@@ -156,7 +156,8 @@ own_named : (l : Language) (absolute : Bool) (path chain : List (List ℕ)) (pla
     → Own l (Named (record { place = place; absolute = absolute; path = path; chain = chain }))
 own_named l absolute [] chain place has w ns a o = elim (has refl) [ ]
 own_named l absolute (s ∷ ss) chain place has w ns a o =
-    reads_last l a Group 65 38 (Inner 13 ∷ []) _ (at w ns o) _ (named_rule l) (chain_read l absolute s ss chain w ns Group o)
+    reads_last l a Group 65 38 (Inner 13 ∷ []) _ (at w ns o) _ (named_rule l) (chain_read l absolute s ss chain w ns Group
+    (record w.reading { operator = o; start = Some 0 }))
 
 -- an expression of a level that is none of an operator between operands
 front_outside : (l : Language) (e : Tree) → Own l e → ((k : ℕ) → 1 ≤ k → k ≤ 8 → level e ≡ k → ⊥) → Front l e

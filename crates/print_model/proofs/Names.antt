@@ -1,6 +1,6 @@
 -- A printed name is read back.
 use Rattle.std.proofs.Common.{◌≡◌, ℕ, List, [], ◌∷◌, ◌++◌, length, refl, ap, sym, subst, ◌∙◌, arith, append_assoc, append-nil}
-use Rattle.std.specs.Prelude.{Option, Some, Bool, true, false, slice_range, codes}
+use Rattle.std.specs.Prelude.{Some, Bool, true, false, slice_range, codes}
 use Rattle.std.proofs.Math.Seq.{drop-length}
 use Rattle.std.proofs.lemmas.List.Folds.{drop_split}
 use Rattle.element_store.specs.declared.outcome.Language.{Language}
@@ -19,7 +19,7 @@ use Rattle.text_model.specs.declared.action.Meaning.TheVariants as meaning
 use Rattle.text_model.specs.declared.draft.Path.{Path}
 use Rattle.text_model.specs.declared.draft.What.TheVariants as what
 use Rattle.text_model.specs.declared.draft.DraftNode.{DraftNode}
-use Rattle.text_model.specs.declared.draft.Waiting.{Waiting}
+use Rattle.text_model.specs.declared.draft.Reading.{Reading}
 use Rattle.text_model.specs.Tables.{tables}
 use Rattle.text_model.specs.Drafts.{node, last_changed, with_segment, with_step}
 use Rattle.text_model.specs.Walk.{Walk, meant_name}
@@ -27,7 +27,7 @@ use Rattle.print_model.specs.Printed.{Printed, sign, name}
 use Rattle.print_model.specs.Trees.{behind, headed, rooted}
 use Rattle.print_model.proofs.BareWalk.{token_of}
 use Rattle.print_model.proofs.Readings.{Reads, IsRule, IsToken, reads_nothing, reads_said, reads_last, reads_then, reads_as, reads_to}
-use Rattle.print_model.proofs.States.{at, ReadsAt}
+use Rattle.print_model.proofs.States.{among}
 use Rattle.print_model.proofs.Rules.{root, segments, steps}
 use Rattle.text_model.specs.Languages.{grammar_of}
 use Rattle.kerml_grammar.specs.Rules.{kerml_rules}
@@ -56,22 +56,22 @@ reads_name l a s ss ps w v r =
     reads_said l a (name l s) 0 meaning.Name ss ps w v refl refl
     (subst (λ bytes. Reads l a ss ps (meant_name a (token_of (name l s)) bytes w) v) (sym (name_said l s)) r)
 
-last_is : (f : Path → Path) (ns : List DraftNode) (p : Path) → last_changed f (ns ++ node (what.Named p) 0 ∷ []) ≡ ns ++ node (what.Named (f p)) 0 ∷ []
+pub last_is : (f : Path → Path) (ns : List DraftNode) (p : Path) → last_changed f (ns ++ node (what.Named p) 0 ∷ []) ≡ ns ++ node (what.Named (f p)) 0 ∷ []
 last_is f [] p = refl
 last_is f (n ∷ []) p = refl
 last_is f (n ∷ m ∷ ns) p = ap (λ xs. n ∷ xs) (last_is f (m ∷ ns) p)
 
-colons : (l : Language) → IsToken l (sign (codes "::")) 17 meaning.Nothing
+pub colons : (l : Language) → IsToken l (sign (codes "::")) 17 meaning.Nothing
 unfolding signs words tables sign_meanings kerml_meanings sysml_meanings
 colons Kerml = (refl, refl)
 colons Sysml = (refl, refl)
 
-dot : (l : Language) → IsToken l (sign (codes ".")) 14 meaning.Nothing
+pub dot : (l : Language) → IsToken l (sign (codes ".")) 14 meaning.Nothing
 unfolding signs words tables sign_meanings kerml_meanings sysml_meanings
 dot Kerml = (refl, refl)
 dot Sysml = (refl, refl)
 
-dollar : (l : Language) → IsToken l (sign (codes "$")) 41 meaning.Absolute
+pub dollar : (l : Language) → IsToken l (sign (codes "$")) 41 meaning.Absolute
 unfolding signs words tables sign_meanings kerml_meanings sysml_meanings
 dollar Kerml = (refl, refl)
 dollar Sysml = (refl, refl)
@@ -137,52 +137,52 @@ root_none_rule Kerml = (refl, refl)
 root_none_rule Sysml = (refl, refl)
 
 -- the rest of a name's path
-segments_read : (l : Language) (ss : List (List ℕ)) (a : Action) (w : Walk) (ns : List DraftNode) (o : Option Waiting) (p : Path)
-    → Reads l a (Inner (segments l) ∷ []) (behind l (codes "::") ss) (at w (ns ++ node (what.Named p) 0 ∷ []) o)
-    (at w (ns ++ node (what.Named (record p { path = p.path ++ ss })) 0 ∷ []) o)
-segments_read l [] a w ns o p =
-    reads_to l a (Inner (segments l) ∷ []) [] (at w (ns ++ node (what.Named p) 0 ∷ []) o) (at w (ns ++ node (what.Named p) 0 ∷ []) o)
-    (at w (ns ++ node (what.Named (record p { path = p.path ++ [] })) 0 ∷ []) o)
-    (ap (λ xs. at w (ns ++ node (what.Named (record p { path = xs })) 0 ∷ []) o) (sym (append-nil p.path)))
-    (reads_last l a Group (segments_end l) (segments l) [] [] (at w (ns ++ node (what.Named p) 0 ∷ []) o) (at w (ns ++ node (what.Named p) 0 ∷ []) o)
-    (segments_end_rule l) (reads_nothing l Group (at w (ns ++ node (what.Named p) 0 ∷ []) o)))
-segments_read l (s ∷ ss) a w ns o p =
-    let start = at w (ns ++ node (what.Named p) 0 ∷ []) o in
-    let end = at w (ns ++ node (what.Named (record p { path = p.path ++ s ∷ ss })) 0 ∷ []) o in
+pub segments_read : (l : Language) (ss : List (List ℕ)) (a : Action) (w : Walk) (ns : List DraftNode) (r : Reading) (p : Path)
+    → Reads l a (Inner (segments l) ∷ []) (behind l (codes "::") ss) (among w (ns ++ node (what.Named p) 0 ∷ []) r)
+    (among w (ns ++ node (what.Named (record p { path = p.path ++ ss })) 0 ∷ []) r)
+segments_read l [] a w ns r p =
+    reads_to l a (Inner (segments l) ∷ []) [] (among w (ns ++ node (what.Named p) 0 ∷ []) r) (among w (ns ++ node (what.Named p) 0 ∷ []) r)
+    (among w (ns ++ node (what.Named (record p { path = p.path ++ [] })) 0 ∷ []) r)
+    (ap (λ xs. among w (ns ++ node (what.Named (record p { path = xs })) 0 ∷ []) r) (sym (append-nil p.path)))
+    (reads_last l a Group (segments_end l) (segments l) [] [] (among w (ns ++ node (what.Named p) 0 ∷ []) r) (among w (ns ++ node (what.Named p) 0 ∷ []) r)
+    (segments_end_rule l) (reads_nothing l Group (among w (ns ++ node (what.Named p) 0 ∷ []) r)))
+segments_read l (s ∷ ss) a w ns r p =
+    let start = among w (ns ++ node (what.Named p) 0 ∷ []) r in
+    let end = among w (ns ++ node (what.Named (record p { path = p.path ++ s ∷ ss })) 0 ∷ []) r in
     reads_last l a Segment (segments_more l) (segments l) (Terminal 17 ∷ Terminal 0 ∷ Inner (segments l) ∷ [])
     (sign (codes "::") ∷ name l s ∷ behind l (codes "::") ss) start end (segments_more_rule l)
     (reads_said l Segment (sign (codes "::")) 17 meaning.Nothing (Terminal 0 ∷ Inner (segments l) ∷ []) (name l s ∷ behind l (codes "::") ss) start end
     (colons l).0 (colons l).1
     (reads_name l Segment s (Inner (segments l) ∷ []) (behind l (codes "::") ss) start end
-    (subst (λ xs. Reads l Segment (Inner (segments l) ∷ []) (behind l (codes "::") ss) (at w xs o) end) (sym (last_is (with_segment s) ns p))
-    (reads_to l Segment (Inner (segments l) ∷ []) (behind l (codes "::") ss) (at w (ns ++ node (what.Named (with_segment s p)) 0 ∷ []) o)
-    (at w (ns ++ node (what.Named (record p { path = (p.path ++ s ∷ []) ++ ss })) 0 ∷ []) o) end
-    (ap (λ xs. at w (ns ++ node (what.Named (record p { path = xs })) 0 ∷ []) o) (append_assoc p.path (s ∷ []) ss))
-    (segments_read l ss Segment w ns o (with_segment s p))))))
+    (subst (λ xs. Reads l Segment (Inner (segments l) ∷ []) (behind l (codes "::") ss) (among w xs r) end) (sym (last_is (with_segment s) ns p))
+    (reads_to l Segment (Inner (segments l) ∷ []) (behind l (codes "::") ss) (among w (ns ++ node (what.Named (with_segment s p)) 0 ∷ []) r)
+    (among w (ns ++ node (what.Named (record p { path = (p.path ++ s ∷ []) ++ ss })) 0 ∷ []) r) end
+    (ap (λ xs. among w (ns ++ node (what.Named (record p { path = xs })) 0 ∷ []) r) (append_assoc p.path (s ∷ []) ss))
+    (segments_read l ss Segment w ns r (with_segment s p))))))
 
 -- the rest of a name's chain
-steps_read : (l : Language) (ss : List (List ℕ)) (a : Action) (w : Walk) (ns : List DraftNode) (o : Option Waiting) (p : Path)
-    → Reads l a (Inner (steps l) ∷ []) (behind l (codes ".") ss) (at w (ns ++ node (what.Named p) 0 ∷ []) o)
-    (at w (ns ++ node (what.Named (record p { chain = p.chain ++ ss })) 0 ∷ []) o)
-steps_read l [] a w ns o p =
-    reads_to l a (Inner (steps l) ∷ []) [] (at w (ns ++ node (what.Named p) 0 ∷ []) o) (at w (ns ++ node (what.Named p) 0 ∷ []) o)
-    (at w (ns ++ node (what.Named (record p { chain = p.chain ++ [] })) 0 ∷ []) o)
-    (ap (λ xs. at w (ns ++ node (what.Named (record p { chain = xs })) 0 ∷ []) o) (sym (append-nil p.chain)))
-    (reads_last l a Group (steps_end l) (steps l) [] [] (at w (ns ++ node (what.Named p) 0 ∷ []) o) (at w (ns ++ node (what.Named p) 0 ∷ []) o)
-    (steps_end_rule l) (reads_nothing l Group (at w (ns ++ node (what.Named p) 0 ∷ []) o)))
-steps_read l (s ∷ ss) a w ns o p =
-    let start = at w (ns ++ node (what.Named p) 0 ∷ []) o in
-    let end = at w (ns ++ node (what.Named (record p { chain = p.chain ++ s ∷ ss })) 0 ∷ []) o in
+pub steps_read : (l : Language) (ss : List (List ℕ)) (a : Action) (w : Walk) (ns : List DraftNode) (r : Reading) (p : Path)
+    → Reads l a (Inner (steps l) ∷ []) (behind l (codes ".") ss) (among w (ns ++ node (what.Named p) 0 ∷ []) r)
+    (among w (ns ++ node (what.Named (record p { chain = p.chain ++ ss })) 0 ∷ []) r)
+steps_read l [] a w ns r p =
+    reads_to l a (Inner (steps l) ∷ []) [] (among w (ns ++ node (what.Named p) 0 ∷ []) r) (among w (ns ++ node (what.Named p) 0 ∷ []) r)
+    (among w (ns ++ node (what.Named (record p { chain = p.chain ++ [] })) 0 ∷ []) r)
+    (ap (λ xs. among w (ns ++ node (what.Named (record p { chain = xs })) 0 ∷ []) r) (sym (append-nil p.chain)))
+    (reads_last l a Group (steps_end l) (steps l) [] [] (among w (ns ++ node (what.Named p) 0 ∷ []) r) (among w (ns ++ node (what.Named p) 0 ∷ []) r)
+    (steps_end_rule l) (reads_nothing l Group (among w (ns ++ node (what.Named p) 0 ∷ []) r)))
+steps_read l (s ∷ ss) a w ns r p =
+    let start = among w (ns ++ node (what.Named p) 0 ∷ []) r in
+    let end = among w (ns ++ node (what.Named (record p { chain = p.chain ++ s ∷ ss })) 0 ∷ []) r in
     reads_last l a Step (steps_more l) (steps l) (Terminal 14 ∷ Terminal 0 ∷ Inner (steps l) ∷ [])
     (sign (codes ".") ∷ name l s ∷ behind l (codes ".") ss) start end (steps_more_rule l)
     (reads_said l Step (sign (codes ".")) 14 meaning.Nothing (Terminal 0 ∷ Inner (steps l) ∷ []) (name l s ∷ behind l (codes ".") ss) start end (dot l).0
     (dot l).1
     (reads_name l Step s (Inner (steps l) ∷ []) (behind l (codes ".") ss) start end
-    (subst (λ xs. Reads l Step (Inner (steps l) ∷ []) (behind l (codes ".") ss) (at w xs o) end) (sym (last_is (with_step s) ns p))
-    (reads_to l Step (Inner (steps l) ∷ []) (behind l (codes ".") ss) (at w (ns ++ node (what.Named (with_step s p)) 0 ∷ []) o)
-    (at w (ns ++ node (what.Named (record p { chain = (p.chain ++ s ∷ []) ++ ss })) 0 ∷ []) o) end
-    (ap (λ xs. at w (ns ++ node (what.Named (record p { chain = xs })) 0 ∷ []) o) (append_assoc p.chain (s ∷ []) ss))
-    (steps_read l ss Step w ns o (with_step s p))))))
+    (subst (λ xs. Reads l Step (Inner (steps l) ∷ []) (behind l (codes ".") ss) (among w xs r) end) (sym (last_is (with_step s) ns p))
+    (reads_to l Step (Inner (steps l) ∷ []) (behind l (codes ".") ss) (among w (ns ++ node (what.Named (with_step s p)) 0 ∷ []) r)
+    (among w (ns ++ node (what.Named (record p { chain = (p.chain ++ s ∷ []) ++ ss })) 0 ∷ []) r) end
+    (ap (λ xs. among w (ns ++ node (what.Named (record p { chain = xs })) 0 ∷ []) r) (append_assoc p.chain (s ∷ []) ss))
+    (steps_read l ss Step w ns r (with_step s p))))))
 
 name_rule : (l : Language) → IsRule l 21 12 (Inner (root l) ∷ Terminal 0 ∷ Inner (segments l) ∷ []) Group
 unfolding grammar_of kerml_table kerml_rules kerml.sign kerml.word sysml_table sysml_rules sysml.sign sysml.word signs words tables kerml_actions
@@ -197,50 +197,52 @@ chain_rule Kerml = (refl, refl)
 chain_rule Sysml = (refl, refl)
 
 -- a `$` waits, or not
-abbrev rooted_at : Walk → List DraftNode → Option Waiting → Bool → Walk
-rooted_at w ns o false = at w ns o
-rooted_at w ns o true = record w { reading = record w.reading { nodes = ns; operator = o; start = Some 0; root = Some 0 } }
+abbrev pub rooted_at : Walk → List DraftNode → Reading → Bool → Walk
+rooted_at w ns r false = among w ns r
+rooted_at w ns r true = record w { reading = record r { nodes = ns; root = Some 0 } }
 
-root_read : (l : Language) (b : Bool) (a : Action) (w : Walk) (ns : List DraftNode) (o : Option Waiting)
-    → Reads l a (Inner (root l) ∷ []) (rooted b) (at w ns o) (rooted_at w ns o b)
-root_read l true a w ns o =
-    reads_last l a Group (root_some l) (root l) (Terminal 41 ∷ Terminal 17 ∷ []) (rooted true) (at w ns o) (rooted_at w ns o true) (root_some_rule l)
-    (reads_said l Group (sign (codes "$")) 41 meaning.Absolute (Terminal 17 ∷ []) (sign (codes "::") ∷ []) (at w ns o) (rooted_at w ns o true) (dollar l).0
+pub root_read : (l : Language) (b : Bool) (a : Action) (w : Walk) (ns : List DraftNode) (r : Reading)
+    → Reads l a (Inner (root l) ∷ []) (rooted b) (among w ns r) (rooted_at w ns r b)
+root_read l true a w ns r =
+    reads_last l a Group (root_some l) (root l) (Terminal 41 ∷ Terminal 17 ∷ []) (rooted true) (among w ns r) (rooted_at w ns r true) (root_some_rule l)
+    (reads_said l Group (sign (codes "$")) 41 meaning.Absolute (Terminal 17 ∷ []) (sign (codes "::") ∷ []) (among w ns r) (rooted_at w ns r true) (dollar l).0
     (dollar l).1
-    (reads_said l Group (sign (codes "::")) 17 meaning.Nothing [] [] (rooted_at w ns o true) (rooted_at w ns o true) (colons l).0 (colons l).1
-    (reads_nothing l Group (rooted_at w ns o true))))
-root_read l false a w ns o = reads_last l a Group (root_none l) (root l) [] [] (at w ns o) (at w ns o) (root_none_rule l) (reads_nothing l Group (at w ns o))
+    (reads_said l Group (sign (codes "::")) 17 meaning.Nothing [] [] (rooted_at w ns r true) (rooted_at w ns r true) (colons l).0 (colons l).1
+    (reads_nothing l Group (rooted_at w ns r true))))
+root_read l false a w ns r = reads_last l a Group (root_none l) (root l) [] [] (among w ns r) (among w ns r)
+    (root_none_rule l) (reads_nothing l Group (among w ns r))
 
 -- the first segment
-abbrev begun : Bool → List ℕ → Path
+abbrev pub begun : Bool → List ℕ → Path
 begun b s = record { place = 0; absolute = b; path = s ∷ []; chain = [] }
 
-first_read : (l : Language) (b : Bool) (s : List ℕ) (ss : List Symbol) (ps : List Printed) (w v : Walk) (ns : List DraftNode) (o : Option Waiting)
-    → Reads l Group ss ps (at w (ns ++ node (what.Named (begun b s)) 0 ∷ []) o) v → Reads l Group (Terminal 0 ∷ ss) (name l s ∷ ps) (rooted_at w ns o b) v
-first_read l true s ss ps w v ns o r = reads_name l Group s ss ps (rooted_at w ns o true) v r
-first_read l false s ss ps w v ns o r = reads_name l Group s ss ps (rooted_at w ns o false) v r
+pub first_read : (l : Language) (b : Bool) (s : List ℕ) (ss : List Symbol) (ps : List Printed) (w v : Walk) (ns : List DraftNode) (r : Reading)
+    → Reads l Group ss ps (among w (ns ++ node (what.Named (begun b s)) 0 ∷ []) r) v → Reads l Group (Terminal 0 ∷ ss) (name l s ∷ ps) (rooted_at w ns r b) v
+first_read l true s ss ps w v ns r x = reads_name l Group s ss ps (rooted_at w ns r true) v x
+first_read l false s ss ps w v ns r x = reads_name l Group s ss ps (rooted_at w ns r false) v x
 
 -- a qualified name
-pub name_read : (l : Language) (b : Bool) (s : List ℕ) (ss : List (List ℕ)) (w : Walk) (ns : List DraftNode)
-    → ReadsAt l 12 (rooted b ++ headed l (s ∷ ss)) w ns (ns ++ node (what.Named (record { place = 0; absolute = b; path = s ∷ ss; chain = [] })) 0 ∷ [])
-name_read l b s ss w ns a o =
-    let end = at w (ns ++ node (what.Named (record { place = 0; absolute = b; path = s ∷ ss; chain = [] })) 0 ∷ []) o in
-    reads_last l a Group 21 12 (Inner (root l) ∷ Terminal 0 ∷ Inner (segments l) ∷ []) (rooted b ++ headed l (s ∷ ss)) (at w ns o) end (name_rule l)
-    (reads_then l Group (Inner (root l) ∷ []) (Terminal 0 ∷ Inner (segments l) ∷ []) (rooted b) (headed l (s ∷ ss)) (at w ns o) (rooted_at w ns o b) end
-    (root_read l b Group w ns o)
-    (first_read l b s (Inner (segments l) ∷ []) (behind l (codes "::") ss) w end ns o (segments_read l ss Group w ns o (begun b s))))
+pub name_read : (l : Language) (b : Bool) (s : List ℕ) (ss : List (List ℕ)) (w : Walk) (ns : List DraftNode) (a : Action) (r : Reading)
+    → Reads l a (Inner 12 ∷ []) (rooted b ++ headed l (s ∷ ss)) (among w ns r)
+    (among w (ns ++ node (what.Named (record { place = 0; absolute = b; path = s ∷ ss; chain = [] })) 0 ∷ []) r)
+name_read l b s ss w ns a r =
+    let end = among w (ns ++ node (what.Named (record { place = 0; absolute = b; path = s ∷ ss; chain = [] })) 0 ∷ []) r in
+    reads_last l a Group 21 12 (Inner (root l) ∷ Terminal 0 ∷ Inner (segments l) ∷ []) (rooted b ++ headed l (s ∷ ss)) (among w ns r) end (name_rule l)
+    (reads_then l Group (Inner (root l) ∷ []) (Terminal 0 ∷ Inner (segments l) ∷ []) (rooted b) (headed l (s ∷ ss)) (among w ns r) (rooted_at w ns r b) end
+    (root_read l b Group w ns r)
+    (first_read l b s (Inner (segments l) ∷ []) (behind l (codes "::") ss) w end ns r (segments_read l ss Group w ns r (begun b s))))
 
 -- and a chain
-pub chain_read : (l : Language) (b : Bool) (s : List ℕ) (ss cs : List (List ℕ)) (w : Walk) (ns : List DraftNode)
-    → ReadsAt l 13 (rooted b ++ (headed l (s ∷ ss) ++ behind l (codes ".") cs)) w ns
-    (ns ++ node (what.Named (record { place = 0; absolute = b; path = s ∷ ss; chain = cs })) 0 ∷ [])
-chain_read l b s ss cs w ns a o =
-    let mid = at w (ns ++ node (what.Named (record { place = 0; absolute = b; path = s ∷ ss; chain = [] })) 0 ∷ []) o in
-    let end = at w (ns ++ node (what.Named (record { place = 0; absolute = b; path = s ∷ ss; chain = cs })) 0 ∷ []) o in
-    reads_last l a Group 22 13 (Inner 12 ∷ Inner (steps l) ∷ []) (rooted b ++ (headed l (s ∷ ss) ++ behind l (codes ".") cs)) (at w ns o) end (chain_rule l)
+pub chain_read : (l : Language) (b : Bool) (s : List ℕ) (ss cs : List (List ℕ)) (w : Walk) (ns : List DraftNode) (a : Action) (r : Reading)
+    → Reads l a (Inner 13 ∷ []) (rooted b ++ (headed l (s ∷ ss) ++ behind l (codes ".") cs)) (among w ns r)
+    (among w (ns ++ node (what.Named (record { place = 0; absolute = b; path = s ∷ ss; chain = cs })) 0 ∷ []) r)
+chain_read l b s ss cs w ns a r =
+    let mid = among w (ns ++ node (what.Named (record { place = 0; absolute = b; path = s ∷ ss; chain = [] })) 0 ∷ []) r in
+    let end = among w (ns ++ node (what.Named (record { place = 0; absolute = b; path = s ∷ ss; chain = cs })) 0 ∷ []) r in
+    reads_last l a Group 22 13 (Inner 12 ∷ Inner (steps l) ∷ []) (rooted b ++ (headed l (s ∷ ss) ++ behind l (codes ".") cs)) (among w ns r) end (chain_rule l)
     (reads_as l Group (Inner 12 ∷ Inner (steps l) ∷ []) ((rooted b ++ headed l (s ∷ ss)) ++ behind l (codes ".") cs)
-    (rooted b ++ (headed l (s ∷ ss) ++ behind l (codes ".") cs)) (at w ns o) end
+    (rooted b ++ (headed l (s ∷ ss) ++ behind l (codes ".") cs)) (among w ns r) end
     (append_assoc (rooted b) (headed l (s ∷ ss)) (behind l (codes ".") cs))
-    (reads_then l Group (Inner 12 ∷ []) (Inner (steps l) ∷ []) (rooted b ++ headed l (s ∷ ss)) (behind l (codes ".") cs) (at w ns o) mid end
-    (name_read l b s ss w ns Group o)
-    (steps_read l cs Group w ns o (record { place = 0; absolute = b; path = s ∷ ss; chain = [] }))))
+    (reads_then l Group (Inner 12 ∷ []) (Inner (steps l) ∷ []) (rooted b ++ headed l (s ∷ ss)) (behind l (codes ".") cs) (among w ns r) mid end
+    (name_read l b s ss w ns Group r)
+    (steps_read l cs Group w ns r (record { place = 0; absolute = b; path = s ∷ ss; chain = [] }))))

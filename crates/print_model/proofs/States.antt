@@ -9,6 +9,7 @@ use Rattle.text_model.specs.declared.draft.Path.{Path}
 use Rattle.text_model.specs.declared.draft.What.TheVariants as what
 use Rattle.text_model.specs.declared.draft.DraftNode.{DraftNode}
 use Rattle.text_model.specs.declared.draft.Waiting.{Waiting}
+use Rattle.text_model.specs.declared.draft.Reading.{Reading}
 use Rattle.text_model.specs.Drafts.{node}
 use Rattle.text_model.specs.Walk.{Walk}
 use Rattle.print_model.specs.Printed.{Printed}
@@ -22,6 +23,10 @@ waiting o = Some (record { operator = o; place = 0 })
 -- an expression is open, with these nodes and this operator
 abbrev pub at : Walk → List DraftNode → Option Waiting → Walk
 at w ns o = record w { reading = record w.reading { nodes = ns; operator = o; start = Some 0; root = None } }
+
+-- nodes are read, whatever else was read with them
+abbrev pub among : Walk → List DraftNode → Reading → Walk
+among w ns r = record w { reading = record r { nodes = ns; root = None } }
 
 -- a name at no place
 abbrev pub unplaced : Path → Path
