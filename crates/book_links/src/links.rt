@@ -3,11 +3,12 @@ ghost use Rattle.element_store.specs.Stored.{with_model};
 ghost use Rattle.kept_links.specs.Kept.{AreKept, MayOpen};
 ghost use Rattle.root_names.specs.Roots.{AreRootsOf};
 
-use crate::finding::found;
+use crate::finding::{found, implied_over};
 use crate::linked_files::LinkedFiles;
 use crate::settling::settle;
 use demand_core::Answer;
 use element_store::{FileNo, Models, Outcome, RefNo, Segments};
+use implied_rules::ImpliedRows;
 use kept_links::{KeptLinks, copied};
 use link_model::LinkKey;
 use linker_base::NoMemory;
@@ -141,6 +142,10 @@ impl Linking for BookLinks {
             Answer::Cyclic(on) => Ok(Outcome::Cyclic { on: on.0 }),
             Answer::Open => Ok(Outcome::Absent { segment: 1 }),
         }
+    }
+
+    fn implied(&self, models: &Models) -> Result<ImpliedRows, NoMemory> {
+        implied_over(self.alloc, models, &self.kept)
     }
 
     fn find(&self, models: &Models, path: Segments) -> Result<Outcome, NoMemory> {

@@ -3,6 +3,7 @@ pub mod ChangeLaws
 pub mod EditLaws
 pub mod FileLaws
 pub mod FoundLaws
+pub mod ImpliedLaws
 pub mod LabelLaws
 pub mod LiveLaws
 pub mod OutcomeLaws

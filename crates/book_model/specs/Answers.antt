@@ -4,6 +4,7 @@ use Rattle.std.specs.Fmt.{decimal}
 use Rattle.std.specs.List.{flat_map}
 use Rattle.std.specs.Option.{option_map_or}
 use Rattle.element_store.specs.declared.outcome.Language.TheVariants.{Sysml}
+use Rattle.implied_model.specs.Implied.{Implication}
 use Rattle.book_model.specs.declared.asked_name.AskedName.{AskedName}
 use Rattle.book_model.specs.declared.edit.Edit.{Edit}
 use Rattle.book_model.specs.declared.edit.Edit.TheVariants as edit
@@ -14,18 +15,19 @@ use Rattle.book_model.specs.declared.rows.FileReport.TheVariants.{In, Refused}
 use Rattle.book_model.specs.AskedNames.{AskFor}
 use Rattle.book_model.specs.Book.{Book, text_in, edited, left_by, number_of}
 use Rattle.book_model.specs.Files.{LibraryTexts, ProjectFile, AreFilesOf}
-use Rattle.book_model.specs.Queries.{file_query, links_query, reports, faults_query, find_query}
-use Rattle.book_model.specs.Printed.{report_text, row_text, fault_row_text, outcome_text}
+use Rattle.book_model.specs.Queries.{file_query, links_query, reports, faults_query, find_query, implied_query}
+use Rattle.book_model.specs.Printed.{report_text, row_text, fault_row_text, outcome_text, implication_text}
 use Rattle.book_model.specs.Spelling.{written_name}
 
 -- put a text under a name; drop the text under a name; list the links of a file; list what is wrong with all files;
--- find the qualified name that words ask for
+-- find the qualified name that words ask for; list the implied specialisations of all files
 pub data Command : Type 0 where
   Put : (name text : List ℕ) → Command
   Drop : (name : List ℕ) → Command
   Links : (name : List ℕ) → Command
   Check : Command
   Find : (words : List ℕ) → Command
+  Implied : Command
 
 -- the edit of a command, if it has one
 abbrev pub edit_of : Command → Option Edit
@@ -85,6 +87,12 @@ find_answer files (Some name) =
     codes "find " ++ written_name Sysml name.absolute name.path [] ++ codes " -> "
     ++ outcome_text files (find_query files name.path) ++ codes "\n"
 
+-- IMPLIED. The implied specialisations of all files, and their number.
+abbrev pub implied_answer : List ProjectFile → List Implication → List ℕ
+implied_answer files rows =
+    flat_map (λ row. implication_text files row ++ codes "\n") rows
+    ++ codes "implied " ++ decimal (length rows) ++ codes "\n"
+
 -- THE ANSWER of a command over a book, by the files of the book that it leaves
 abbrev pub Answers : Book → List ProjectFile → Command → List ℕ → Type 0
 Answers book files (Command.Put name text) answer = answer ≡ put_answer name (file_query files name)
@@ -93,6 +101,7 @@ Answers book files (Command.Links name) answer = answer ≡ links_answer files n
 Answers book files Command.Check answer = answer ≡ check_answer files (reports files) (faults_query files)
 Answers book files (Command.Find words) answer =
     (name : Option AskedName) × AskFor words name × (answer ≡ find_answer files name)
+Answers book files Command.Implied answer = answer ≡ implied_answer files (implied_query files)
 
 -- the answer of a command over a library, whatever files the book has
 pub record IsAnswer (library : LibraryTexts) (book : Book) (c : Command) (answer : List ℕ) : Type 0 where

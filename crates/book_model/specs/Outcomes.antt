@@ -5,12 +5,14 @@ use Rattle.element_store.specs.declared.numbers.RefNo.{RefNo}
 use Rattle.element_store.specs.declared.outcome.Outcome.{Outcome}
 use Rattle.element_store.specs.declared.outcome.Outcome.TheVariants.{Absent, Cyclic}
 use Rattle.element_store.specs.declared.models.StoredFile.{StoredFile}
+use Rattle.demand_core.specs.Computed.{world}
 use Rattle.demand_core.specs.Least.{least, cyclic_on}
 use Rattle.demand_core.specs.Rules.{IsLeastWait}
 use Rattle.link_model.specs.declared.keys.LinkKey.{LinkKey}
 use Rattle.link_model.specs.Keys.{same_key}
 use Rattle.link_model.specs.Linking.{ComesBefore, Fits, find, link_meaning}
-use Rattle.link_model.specs.Outside.{keys_of}
+use Rattle.link_model.specs.Outside.{keys_of, seen_in}
+use Rattle.link_model.specs.Readers.{LinkWorld}
 
 -- what is decided, or else that the reference is cyclic, on the least one on which it waits; a reference that doesn't
 -- stand is absent
@@ -28,6 +30,10 @@ outcome_of files r =
 -- THE OUTCOME of a qualified name that is asked for from outside, over the least linking
 abbrev pub found_of : List StoredFile → List (List ℕ) → Outcome
 found_of files path = find files (least same_key (link_meaning files)) path
+
+-- what lookups read over the files and their least linking
+abbrev pub linked_world : List StoredFile → LinkWorld
+linked_world files = world (seen_in files) (least same_key (link_meaning files))
 
 -- the outcome is decided by the least linking, and names what stands
 pub record IsDecided (files : List StoredFile) (r : RefNo) (o : Outcome) : Type 0 where

@@ -7,6 +7,7 @@ use Rattle.element_store.specs.declared.outcome.Outcome.{Outcome}
 use Rattle.element_store.specs.declared.outcome.Outcome.TheVariants.{Linked, Absent, Ambiguous, Hidden, Cyclic}
 use Rattle.element_store.specs.declared.outcome.Role.{Role}
 use Rattle.element_store.specs.declared.outcome.Role.TheVariants as role
+use Rattle.implied_model.specs.Implied.{Implication}
 use Rattle.text_model.specs.declared.fault.FileFault.{FileFault}
 use Rattle.text_model.specs.declared.fault.FileFault.TheVariants as fault
 use Rattle.book_model.specs.declared.rows.Place.{Place}
@@ -68,6 +69,12 @@ abbrev pub row_text : List ProjectFile → LinkRow → List ℕ
 row_text files row =
     place_text row.place ++ codes " " ++ role_text row.role ++ codes " " ++ text_of_reference files row.reference
     ++ codes " -> " ++ outcome_text files row.outcome
+
+-- an implied specialisation, as `FILE:PLACE LABEL -> FILE LABEL`; the place is that of the member that owns the type
+abbrev pub implication_text : List ProjectFile → Implication → List ℕ
+implication_text files i =
+    spot_text files i.member.file (member_place files i.member) ++ codes " " ++ label files i.of
+    ++ codes " -> " ++ element_text files i.base
 
 -- a file with a fault, as `refused PLACE FAULT`
 abbrev pub refusal_text : FileFault → Place → List ℕ

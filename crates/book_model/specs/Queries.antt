@@ -9,13 +9,14 @@ use Rattle.element_store.specs.declared.numbers.RefNo.{RefNo}
 use Rattle.element_store.specs.declared.outcome.Outcome.{Outcome}
 use Rattle.element_store.specs.declared.records.Reference.{Reference}
 use Rattle.element_store.specs.Model.{Data}
+use Rattle.implied_model.specs.Implied.{Implication, implications}
 use Rattle.book_model.specs.declared.rows.Place.{Place}
 use Rattle.book_model.specs.declared.rows.LinkRow.{LinkRow}
 use Rattle.book_model.specs.declared.rows.FaultRow.{FaultRow}
 use Rattle.book_model.specs.declared.rows.FileReport.{FileReport}
 use Rattle.book_model.specs.Files.{ProjectFile, stored, text_at, model_at, content_under, ranked}
 use Rattle.book_model.specs.Labels.{label_of}
-use Rattle.book_model.specs.Outcomes.{outcome_of, found_of}
+use Rattle.book_model.specs.Outcomes.{outcome_of, found_of, linked_world}
 use Rattle.book_model.specs.Places.{place_of}
 use Rattle.book_model.specs.Rows.{Outcomes, rows_of, faults_in, report_of}
 use Rattle.book_model.specs.Spelling.{written_name}
@@ -35,6 +36,11 @@ links_query files name = option_map (rows_of (links_over files)) (content_under 
 -- FIND: what becomes of a qualified name that is asked for from outside
 abbrev pub find_query : List ProjectFile → List (List ℕ) → Outcome
 find_query files path = found_of (stored files) path
+
+-- IMPLIED: the types of the book's files that specialise their base by implication, where no link is to come any more;
+-- files in byte order of their names, types in the order of their numbers
+abbrev pub implied_query : List ProjectFile → List Implication
+implied_query files = implications (stored files) (linked_world (stored files))
 
 -- NAMES, REPORTS and FAULTS of the present files, in byte order of their names: the names
 abbrev pub names_query : List ProjectFile → List (List ℕ)

@@ -314,6 +314,43 @@ pub library_not_listed : Answers [] over_library (Command.Links (codes "$lib/Par
     (codes "links $lib/Parts.sysml no file\n")
 library_not_listed = refl
 
+-- Types over the same library, of which some specialise their bases by their own words.
+--   b.sysml  part def A;
+--            part def B :> A;
+--   a.sysml  enum def C { red; }
+--            part def D :> Parts::Part;
+abbrev pub typed_files : List ProjectFile
+typed_files =
+    record (file_with (codes "$lib/Parts.sysml") (codes "package Parts { part def Part; }")
+    (Reading.Model library_model))
+    { library = true }
+    ∷ file_with (codes "b.sysml") (codes "part def A;\npart def B :> A;\n") (Reading.Model (record (data_of 1
+    (root_element ∷ thing kind.PartDef 0 (codes "A") ∷ thing kind.PartDef 0 (codes "B") ∷ [])
+    (owned 0 1 (codes "A") ∷ owned 0 2 (codes "B") ∷ [])
+    (refers role.Subclass 2 (codes "A" ∷ []) ∷ []) [])
+    { member_places = 0 ∷ 12 ∷ []; reference_places = 26 ∷ [] }))
+    ∷ file_with (codes "a.sysml") (codes "enum def C { red; }\npart def D :> Parts::Part;\n")
+    (Reading.Model (record (data_of 2
+    (root_element
+    ∷ thing kind.EnumDef 0 (codes "C")
+    ∷ thing kind.Enumeration 1 (codes "red")
+    ∷ thing kind.PartDef 0 (codes "D")
+    ∷ [])
+    (owned 0 1 (codes "C") ∷ owned 1 2 (codes "red") ∷ owned 0 3 (codes "D") ∷ [])
+    (refers role.Subclass 3 (codes "Parts" ∷ codes "Part" ∷ []) ∷ []) [])
+    { member_places = 0 ∷ 13 ∷ 20 ∷ []; reference_places = 34 ∷ [] }))
+    ∷ []
+
+-- shown: an enumerated value and its enumeration, files by name, and no row where explicit generals reach the base or
+-- the library has none
+pub implied_over_library : Answers [] typed_files Command.Implied (
+    codes "a.sysml:1:14 C::red -> a.sysml C\n"
+    ++ codes "b.sysml:1:1 A -> $lib/Parts.sysml Parts::Part\n"
+    ++ codes "b.sysml:2:1 B -> $lib/Parts.sysml Parts::Part\n"
+    ++ codes "implied 3\n")
+unfolding least stage gather names_from visible_from words signs digits
+implied_over_library = refl
+
 -- the name that a finding asks for
 abbrev asked : Bool → List (List ℕ) → AskedName
 asked absolute path = record { absolute = absolute; path = path }

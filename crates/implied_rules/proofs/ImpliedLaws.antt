@@ -6,15 +6,17 @@ use Rattle.linker_base.proofs.MemberLaws.{member_cases}
 use Rattle.element_store.specs.declared.numbers.ElementNo.{ElementNo}
 use Rattle.element_store.specs.declared.outcome.Outcome.{Outcome}
 use Rattle.element_store.specs.declared.models.StoredFile.{StoredFile}
-use Rattle.element_store.specs.BaseRules.{StandsIn, base_of}
+use Rattle.element_store.specs.BaseRules.{StandsIn, base_of, model_of}
+use Rattle.element_store.specs.Readings.{Owns}
 use Rattle.element_store.specs.Kinds.{is_type}
 use Rattle.element_store.specs.Model.{Data, root_element}
 use Rattle.element_store.specs.Numbers.{chosen, places_from, those_where}
-use Rattle.element_store.specs.Stored.{HasRank}
+use Rattle.element_store.specs.Stored.{AreFiles, HasRank}
 use Rattle.element_store.specs.declared.numbers.FileNo.{FileNo}
 use Rattle.link_model.specs.declared.keys.LinkKey.{LinkKey}
 use Rattle.link_model.specs.Inheritance.{base}
 use Rattle.link_model.specs.Keys.{same_element}
+use Rattle.link_model.specs.Linking.{MemberStands}
 use Rattle.link_model.specs.Outside.{library_of}
 use Rattle.link_model.specs.Readers.{LinkWorld}
 use Rattle.link_model.specs.Settled.{implied, implied_from, specialises}
@@ -23,7 +25,9 @@ use Rattle.link_walk.proofs.ReferenceLists.{get_there}
 use Rattle.inheritance.specs.BaseStands.{same_base}
 use Rattle.inheritance.proofs.ExpandLaws.{model_same}
 use Rattle.implied_rules.specs.declared.rows.ImpliedRow.{ImpliedRow}
-use Rattle.implied_rules.specs.Implied.{Implication, AreImplied, AreListed, AreOwned, IsAt, IsOwned, implied_at, implied_in, said_by}
+use Rattle.implied_model.specs.Implied.{Implication, implication, implied_at, implied_in, owner_of}
+use Rattle.implied_model.proofs.RankOrder.{order_of_ranks}
+use Rattle.implied_rules.specs.Implied.{AreImplied, AreListed, AreStanding, IsAt, said_by}
 
 -- it stands
 pub stands : (files : List StoredFile) (t : ElementNo) → (d : Data) × IsAt files t d → StandsIn files t
@@ -78,28 +82,41 @@ as_before said more none = sym (append-nil said) ∙ ap (λ xs. said ++ xs) (sym
 module _ (files : List StoredFile) (w : LinkWorld) (f : FileNo) (d : Data) where
   -- what is no type has no implication
   pub untyped : (i : ℕ) → is_type (get_or d.elements i root_element).kind ≡ false → implied_at files w f d i ≡ []
-  untyped i other = let t : ElementNo = record { file = f; index = i } in
-      ap (λ b. cond b (map (λ x. record { of = t; base = x }) (implied (library_of files) t w)) []) other
+  untyped i other = ap (λ b. cond b (map (implication f d i) (implied (library_of files) (record { file = f; index = i }) w)) []) other
 
-  -- a type has that of its base
-  pub typed : (i : ℕ) (bs : List ElementNo) → is_type (get_or d.elements i root_element).kind ≡ true
+  -- a type has that of its base, with the member that owns it
+  pub typed : (i m : ℕ) (bs : List ElementNo) → is_type (get_or d.elements i root_element).kind ≡ true → m ≡ owner_of d i
       → bs ≡ implied (library_of files) (record { file = f; index = i }) w
-      → implied_at files w f d i ≡ map (λ x. record { of = record { file = f; index = i }; base = x }) bs
-  typed i bs is are = let t : ElementNo = record { file = f; index = i } in
-      ap (λ b. cond b (map (λ x. record { of = t; base = x }) (implied (library_of files) t w)) []) is
-      ∙ ap (map (λ x. record { of = t; base = x })) (sym are)
+      → implied_at files w f d i
+      ≡ map (λ x. record { of = record { file = f; index = i }; member = record { file = f; index = m }; base = x }) bs
+  typed i m bs is owner are =
+      ap (λ b. cond b (map (implication f d i) (implied (library_of files) (record { file = f; index = i }) w)) []) is
+      ∙ (ap (map (implication f d i)) (sym are)
+      ∙ ap (λ k. map (λ x. record { of = record { file = f; index = i }; member = record { file = f; index = k }; base = x }) bs) (sym owner))
 
 -- a row more says its implication behind the others
 pub said_more : (rows : List ImpliedRow) (row : ImpliedRow) → map said_by (rows ++ row ∷ []) ≡ map said_by rows ++ said_by row ∷ []
 said_more [] row = refl
 said_more (r ∷ rows) row = ap (λ xs. said_by r ∷ xs) (said_more rows row)
 
--- and is owned like them
-pub owned_more : (files : List StoredFile) (rows : List ImpliedRow) (row : ImpliedRow) → IsOwned files row → AreOwned files rows
-    → AreOwned files (rows ++ row ∷ [])
-owned_more files rows row owned others r m = elim (member_cases rows (row ∷ []) r m) [
+-- what stands at a place stands below the length
+below : {A : Type 0} (xs : List A) (i : ℕ) (x : A) → slice_get xs i ≡ Some x → i < length xs
+below [] i x at = cc
+below (y ∷ ys) zero x at = omega arith
+below (y ∷ ys) (suc i) x at = let lt = below ys i x at in omega (arith, lt)
+
+-- a member that owns stands
+pub member_stands : (files : List StoredFile) (f : FileNo) (d : Data) (e m : ℕ) → model_of files f.0 ≡ Some d → Owns d e m
+    → MemberStands files (record { file = f; index = m })
+member_stands files f d e m model owns = (d, model, below d.members m owns.0 owns.1)
+
+-- a row more that stands, among rows that do
+pub standing_more : (files : List StoredFile) (rows : List ImpliedRow) (row : ImpliedRow) → StandsIn files row.of → MemberStands files row.member
+    → StandsIn files row.base → AreStanding files rows → AreStanding files (rows ++ row ∷ [])
+standing_more files rows row of member base others r m = elim (member_cases rows (row ∷ []) r m) [
   | inl before ↦ others r before
-  | inr (inl is) ↦ subst (IsOwned files) is owned
+  | inr (inl is) ↦
+      subst (λ (x : ImpliedRow). StandsIn files x.of × MemberStands files x.member × StandsIn files x.base) is (of, member, base)
   | inr (inr none) ↦ absurd none
 ]
 
@@ -162,18 +179,18 @@ length_last (y ∷ xs) x = ap suc (length_last xs x)
 module _ (files : List StoredFile) (w : LinkWorld) where
   -- at first none are listed
   pub none_listed : AreListed files w 0 []
-  none_listed = record { order = []; long = refl; ranked = λ r f at. cc; said = refl; owned = λ row m. absurd m }
+  none_listed = record { order = []; long = refl; ranked = λ r f at. cc; said = refl; stand = λ row m. absurd m }
 
   -- then the file of the next rank
   pub listed_more : (count : ℕ) (f : FileNo) (old new : List ImpliedRow) → AreListed files w count old → HasRank files count f.0
-      → map said_by new ≡ map said_by old ++ implied_in files w f → (AreOwned files old → AreOwned files new)
+      → map said_by new ≡ map said_by old ++ implied_in files w f → (AreStanding files old → AreStanding files new)
       → AreListed files w (count + 1) new
-  listed_more count f old new before has is owned = record {
+  listed_more count f old new before has is stand = record {
     order = before.order ++ f ∷ [];
     long = length_last before.order f ∙ (ap suc before.long ∙ sym (add-one count));
     ranked = λ r g at. by r g (placed_last before.order f r g at);
     said = is ∙ (ap (λ xs. xs ++ implied_in files w f) before.said ∙ sym (flat_last (implied_in files w) before.order f));
-    owned = owned before.owned;
+    stand = stand before.stand;
   }
     where
       by : (r : ℕ) (g : FileNo) → (slice_get before.order r ≡ Some g) ⊎ ((r ≡ length before.order) × (g ≡ f)) → HasRank files r g.0
@@ -182,11 +199,8 @@ module _ (files : List StoredFile) (w : LinkWorld) where
           subst (λ n. HasRank files n g.0) (sym (last ∙ before.long)) (subst (λ (x : FileNo). HasRank files count x.0) (sym is) has)
 
   -- and in the end all project files are
-  pub listed_all : (count : ℕ) (rows : List ImpliedRow) → AreListed files w count rows
+  pub listed_all : (count : ℕ) (rows : List ImpliedRow) → AreFiles files → AreListed files w count rows
       → count ≡ length (those_where (λ s. not s.library) files) → AreImplied files w rows
-  listed_all count rows listed is = record {
-    order = listed.order;
-    ranked = record { all = listed.long ∙ is; ranked = listed.ranked };
-    said = listed.said;
-    owned = listed.owned;
-  }
+  listed_all count rows are listed is =
+      listed.said ∙ ap (flat_map (implied_in files w))
+      (order_of_ranks files listed.order are (record { all = listed.long ∙ is; ranked = listed.ranked }))

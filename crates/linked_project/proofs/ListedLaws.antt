@@ -15,7 +15,7 @@ use Rattle.book_model.specs.declared.rows.FaultRow.TheVariants.{File, Link}
 use Rattle.book_model.specs.declared.rows.FileReport.TheVariants.{In, Refused}
 use Rattle.book_model.specs.declared.rows.LinkRow.{LinkRow}
 use Rattle.book_model.specs.declared.rows.Place.{Place}
-use Rattle.book_model.specs.Files.{AreFilesOf, Content, Present, ProjectFile, content_under, model_at, name_at, ranked, stored}
+use Rattle.book_model.specs.Files.{Content, Present, ProjectFile, content_under, model_at, name_at, ranked, stored}
 use Rattle.book_model.specs.Live.{HasModel, IsLiveReference}
 use Rattle.book_model.specs.Places.{place_of}
 use Rattle.book_model.specs.Queries.{faults_query, links_over, names_query}
@@ -24,7 +24,7 @@ use Rattle.book_model.specs.Rows.{Standing, faults_by, is_linked, link_row, repo
 use Rattle.book_model.proofs.SortingLaws.{sorted_same}
 use Rattle.project_files.specs.Kept.{content_at}
 use Rattle.project_files.proofs.KeptLaws.{live_model}
-use Rattle.project_book.specs.Named.{book_of}
+use Rattle.project_book.specs.Named.{IsOwn}
 use Rattle.project_answers.specs.Holds.{IsPresentAt}
 use Rattle.project_answers.specs.declared.spots.Spot.{Spot}
 use Rattle.project_answers.specs.RowLines.{reference_at}
@@ -130,19 +130,19 @@ pub gone_wrong : (files : List ProjectFile) (n : FileNo) → None ≡ option_map
 gone_wrong files n none = ap (flat_map (wrong_with files)) (present_isnt files n (no_content (content_at files n) none))
 
 -- its fault
-pub fault_wrong : (files : List ProjectFile) (n : FileNo) (fault : FileFault) (place : Place) → AreFilesOf (book_of files) [] files
+pub fault_wrong : (files : List ProjectFile) (n : FileNo) (fault : FileFault) (place : Place) → IsOwn files n
     → Some (Refused fault place) ≡ option_map report_of (content_at files n) → File (name_at files n) fault place ∷ [] ≡ wrong_at files n
-fault_wrong files n fault place are report =
+fault_wrong files n fault place own report =
     let c = refused_content (content_at files n) fault place report in
-    sym (wrong_is files n c.0 are c.1
+    sym (wrong_is files n c.0 own c.1
     ∙ (ap (faults_by (links_over files) (name_at files n) c.0.text) c.2 ∙ ap (λ p. File (name_at files n) fault p ∷ []) (sym c.3)))
 
 -- or its rows that aren't linked
-pub rows_wrong : (files : List ProjectFile) (n : FileNo) (elements references : ℕ) → AreFilesOf (book_of files) [] files → AreFiles (stored files)
+pub rows_wrong : (files : List ProjectFile) (n : FileNo) (elements references : ℕ) → IsOwn files n → AreFiles (stored files)
     → Some (In elements references) ≡ option_map report_of (content_at files n) → wrong_rows_at files n ≡ wrong_at files n
-rows_wrong files n elements references are kept report =
+rows_wrong files n elements references own kept report =
     let c = read_content (content_at files n) elements references report in
-    read_wrong files n c.0 c.1 c.2 c.3 kept ∙ sym (wrong_is files n c.0 are c.1)
+    read_wrong files n c.0 c.1 c.2 c.3 kept ∙ sym (wrong_is files n c.0 own c.1)
 
 -- FAULTS: what is wrong with files in their order
 pub faults_listed : {E : Type 0} (files : List ProjectFile) (order : List FileNo) (r : Result (List FaultRow) E) → presents files order ≡ ranked files
@@ -153,13 +153,13 @@ faults_listed files order (Err e) ranks is = tt
 -- ---- names
 
 -- a file that is present has a name
-pub named_one : (files : List ProjectFile) (n : FileNo) (size : ℕ) → AreFilesOf (book_of files) [] files
+pub named_one : (files : List ProjectFile) (n : FileNo) (size : ℕ) → IsOwn files n
     → Some size ≡ option_map (λ c. length c.text) (content_at files n) → name_at files n ∷ [] ≡ present_names files n
-named_one files n size are is = by (content_at files n) refl is where
+named_one files n size own is = by (content_at files n) refl is where
   by : (o : Option Content) → content_at files n ≡ o → Some size ≡ option_map (λ (c : Content). length c.text) o
       → name_at files n ∷ [] ≡ present_names files n
   by None e some = absurd (cc)
-  by (Some c) e some = sym (ap (map (λ (p : Present). p.name)) (present_is files n c are e))
+  by (Some c) e some = sym (ap (map (λ (p : Present). p.name)) (present_is files n c own e))
 
 -- and one that isn't has none
 pub named_none : (files : List ProjectFile) (n : FileNo) → None ≡ option_map (λ c. length c.text) (content_at files n) → present_names files n ≡ []
@@ -218,27 +218,29 @@ spots_wrong_live files n (s ∷ ss) kept all =
     one row live false = All-cons (IsLiveFault files) (Link (name_at files n) row) [] live (All-nil (IsLiveFault files))
 
 -- what is wrong with a file
-wrong_live : (files : List ProjectFile) (n : FileNo) → AreFilesOf (book_of files) [] files → AreFiles (stored files)
+wrong_live : (files : List ProjectFile) (n : FileNo) → IsOwn files n → AreFiles (stored files)
     → All (IsLiveFault files) (wrong_at files n)
-wrong_live files n are kept = by (content_at files n) refl where
+wrong_live files n own kept = by (content_at files n) refl where
   by : (o : Option Content) → content_at files n ≡ o → All (IsLiveFault files) (wrong_at files n)
   by None e =
       subst (All (IsLiveFault files)) (sym (gone_wrong files n (sym (ap (option_map report_of) e)))) (All-nil (IsLiveFault files))
   by (Some c) e = read c.reading refl where
     read : (r : Reading) → c.reading ≡ r → All (IsLiveFault files) (wrong_at files n)
     read (Reading.Model d) is =
-        subst (All (IsLiveFault files)) (read_wrong files n c e d is kept ∙ sym (wrong_is files n c are e))
+        subst (All (IsLiveFault files)) (read_wrong files n c e d is kept ∙ sym (wrong_is files n c own e))
         (spots_wrong_live files n (rising_spots (model_at files n)) kept
         (rising_live files n (model_by n (language_of (name_at files n)) c.reading) (content_model files n c e)))
     read (Reading.Fault fault) is =
-        subst (All (IsLiveFault files)) (sym (wrong_is files n c are e ∙ ap (faults_by (links_over files) (name_at files n) c.text) is))
+        subst (All (IsLiveFault files)) (sym (wrong_is files n c own e ∙ ap (faults_by (links_over files) (name_at files n) c.text) is))
         (All-cons (IsLiveFault files) (File (name_at files n) fault (place_of c.text (fault_place fault))) [] tt (All-nil (IsLiveFault files)))
 
 -- what is wrong with files in their order
-pub faults_live : {E : Type 0} (files : List ProjectFile) (order : List FileNo) (r : Result (List FaultRow) E) → AreFilesOf (book_of files) [] files
+pub faults_live : {E : Type 0} (files : List ProjectFile) (order : List FileNo) (r : Result (List FaultRow) E) → All (IsOwn files) order
     → AreFiles (stored files) → IfOk r (λ rows. rows ≡ flat_map (wrong_at files) order) → IfOk r (λ rows. All (IsLiveFault files) rows)
-faults_live files order (Err e) are kept is = tt
-faults_live files order (Ok rows) are kept is = subst (All (IsLiveFault files)) (sym is) (all order) where
-  all : (ns : List FileNo) → All (IsLiveFault files) (flat_map (wrong_at files) ns)
-  all [] = All-nil (IsLiveFault files)
-  all (n ∷ ns) = All-append (IsLiveFault files) (wrong_at files n) (flat_map (wrong_at files) ns) (wrong_live files n are kept) (all ns)
+faults_live files order (Err e) own kept is = tt
+faults_live files order (Ok rows) own kept is = subst (All (IsLiveFault files)) (sym is) (all order own) where
+  all : (ns : List FileNo) → All (IsOwn files) ns → All (IsLiveFault files) (flat_map (wrong_at files) ns)
+  all [] own = All-nil (IsLiveFault files)
+  all (n ∷ ns) own =
+      All-append (IsLiveFault files) (wrong_at files n) (flat_map (wrong_at files) ns) (wrong_live files n (All-head (IsOwn files) n ns own) kept)
+      (all ns (All-tail (IsOwn files) n ns own))

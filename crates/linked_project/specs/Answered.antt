@@ -1,10 +1,12 @@
 -- What a linked project answers. A broken one answers so before all else.
-use Rattle.std.specs.Prelude.{◌≡◌, ℕ, Bool, true, false, List, Option, Some, None, Result, Ok, Err}
+use Rattle.std.specs.Prelude.{◌≡◌, ℕ, Bool, true, false, List, map, Option, Some, None, Result, Ok, Err}
 use Rattle.element_store.specs.declared.outcome.Outcome.{Outcome}
 use Rattle.book_model.specs.declared.asked_name.AskedName.{AskedName}
 use Rattle.book_model.specs.AskedNames.{AskFor}
 use Rattle.book_model.specs.Files.{AreFilesOf}
-use Rattle.book_model.specs.Queries.{find_query}
+use Rattle.book_model.specs.Queries.{find_query, implied_query}
+use Rattle.implied_rules.specs.declared.rows.ImpliedRow.{ImpliedRow}
+use Rattle.implied_rules.specs.Implied.{said_by}
 use Rattle.project_book.specs.Held.{Held}
 use Rattle.project_answers.specs.Holds.{holding_of}
 use Rattle.linked_project.specs.declared.asked_pair.AskedPair.{AskedPair}
@@ -37,6 +39,14 @@ IsFound held words (Err BadName) = (held.broken ≡ false) × AskFor words None
 IsFound held words (Err Broken) = held.broken ≡ true
 IsFound held words (Err NoMemory) = held.broken ≡ false
 IsFound held words (Err NoSuchFile) = ⊥
+
+-- IMPLIED. The rows say the implied specialisations of the book.
+abbrev pub IsImplied : Held → Result (List ImpliedRow) QueryFault → Type 0
+IsImplied held (Ok rows) = (held.broken ≡ false) × (map said_by rows ≡ implied_query held.files)
+IsImplied held (Err Broken) = held.broken ≡ true
+IsImplied held (Err NoMemory) = held.broken ≡ false
+IsImplied held (Err NoSuchFile) = ⊥
+IsImplied held (Err BadName) = ⊥
 
 -- SPELT. The canonical spelling of the one name or the two that the words are; or they are none.
 abbrev pub IsSpelt : Bool → List ℕ → Result (List ℕ) QueryFault → Type 0

@@ -2,13 +2,13 @@ ghost use Rattle.std.specs.Prelude.{◌≡◌, ◌<◌, ◌++◌, ◌∷◌, [],
 ghost use Rattle.std.specs.List.{flat_map};
 ghost use Rattle.element_store.specs.Model.{Data};
 ghost use Rattle.book_model.specs.declared.rows.FaultRow.TheVariants.{File};
-ghost use Rattle.book_model.specs.Files.{AreFilesOf, name_at, stored};
+ghost use Rattle.book_model.specs.Files.{name_at, stored};
 ghost use Rattle.book_model.specs.Live.{HasModel, IsLiveReference};
 ghost use Rattle.book_model.specs.Queries.{faults_query};
 ghost use Rattle.project_answers.specs.Holds.{all_linked};
 ghost use Rattle.project_answers.specs.RowLines.{reference_at, row_at};
 ghost use Rattle.project_answers.specs.Wrong.{wrong_at};
-ghost use Rattle.project_book.specs.Named.{book_of};
+ghost use Rattle.project_book.specs.Named.{AreOfBook, IsOwn};
 ghost use Rattle.linked_project.specs.Listed.{IsLiveFault, wrong_row, wrong_rows_at, wrong_spot};
 
 use crate::file_names::name_of;
@@ -105,7 +105,7 @@ fn push_wrong<G: Linking>(
     file: FileNo,
     rows: &mut FaultRows,
 ) -> Result<(), NoMemory>
-    requires are { AreFilesOf (book_of files.now) [] files.now }
+    requires own { IsOwn files.now file }
     requires stands { file.0 < length files.now }
     requires over { G.follows links.now ≡ all_linked (stored files.now) }
     ensures { OnOk result (rows.new ≡ rows.old ++ wrong_at files.now file) }
@@ -128,7 +128,7 @@ fn wrong_with<G: Linking>(
     links: &G,
     numbers: &[FileNo],
 ) -> Result<FaultRows, NoMemory>
-    requires are { AreFilesOf (book_of files.now) [] files.now }
+    requires own { Each (IsOwn files.now) numbers.now }
     requires stand { Each (λ n. n.0 < length files.now) numbers.now }
     requires over { G.follows links.now ≡ all_linked (stored files.now) }
     ensures { IfOk result (λ rows. rows ≡ flat_map (wrong_at files.now) numbers.now) }
@@ -146,7 +146,7 @@ pub(crate) fn fault_rows<G: Linking>(
     files: &ProjectFiles,
     links: &G,
 ) -> Result<FaultRows, NoMemory>
-    requires are { AreFilesOf (book_of files.now) [] files.now }
+    requires are { AreOfBook files.now }
     requires over { G.follows links.now ≡ all_linked (stored files.now) }
     ensures rows { IfOk result (λ rows. rows ≡ faults_query files.now) }
     ensures live { IfOk result (λ rows. Each (IsLiveFault files.now) rows) }

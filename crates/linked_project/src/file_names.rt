@@ -1,8 +1,8 @@
 ghost use Rattle.std.specs.Prelude.{◌≡◌, ◌<◌, ◌++◌, [], All as Each, IfOk, OnOk, length};
 ghost use Rattle.std.specs.List.{flat_map};
-ghost use Rattle.book_model.specs.Files.{AreFilesOf, name_at};
+ghost use Rattle.book_model.specs.Files.{name_at};
 ghost use Rattle.book_model.specs.Queries.{names_query};
-ghost use Rattle.project_book.specs.Named.{book_of};
+ghost use Rattle.project_book.specs.Named.{AreOfBook, IsOwn};
 ghost use Rattle.linked_project.specs.Listed.{present_names};
 
 use element_store::{FileName, FileNo};
@@ -37,7 +37,7 @@ fn push_name(
     file: FileNo,
     names: &mut FileNames,
 ) -> Result<(), NoMemory>
-    requires are { AreFilesOf (book_of files.now) [] files.now }
+    requires own { IsOwn files.now file }
     requires stands { file.0 < length files.now }
     ensures { OnOk result (names.new ≡ names.old ++ present_names files.now file) }
 {
@@ -49,7 +49,7 @@ fn push_name(
 
 /// The names of these files, as far as their texts are present.
 fn names_at(alloc: Global, files: &ProjectFiles, numbers: &[FileNo]) -> Result<FileNames, NoMemory>
-    requires are { AreFilesOf (book_of files.now) [] files.now }
+    requires own { Each (IsOwn files.now) numbers.now }
     requires stand { Each (λ n. n.0 < length files.now) numbers.now }
     ensures { IfOk result (λ names. names ≡ flat_map (present_names files.now) numbers.now) }
 {
@@ -62,7 +62,7 @@ fn names_at(alloc: Global, files: &ProjectFiles, numbers: &[FileNo]) -> Result<F
 
 /// The names of the present files, in byte order.
 pub(crate) fn file_names(alloc: Global, files: &ProjectFiles) -> Result<FileNames, NoMemory>
-    requires { AreFilesOf (book_of files.now) [] files.now }
+    requires { AreOfBook files.now }
     ensures { IfOk result (λ names. names ≡ names_query files.now) }
 {
     let order = in_order(alloc, files)?;

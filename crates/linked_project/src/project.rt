@@ -1,11 +1,13 @@
-ghost use Rattle.std.specs.Prelude.{◌≡◌, ◌<◌, ◌^◌, [], All as Each, IfOk, OnOk, Some, false, length};
+ghost use Rattle.std.specs.Prelude.{◌≡◌, ◌<◌, ◌^◌, All as Each, IfOk, OnOk, Some, false, length};
 ghost use Rattle.book_model.specs.declared.edit.Edit.TheVariants.{Drop as Dropped, Put};
 ghost use Rattle.book_model.specs.Files.{name_at};
 ghost use Rattle.book_model.specs.Live.{IsLiveElement, IsLiveMember, IsLiveReference, NamesLive};
 ghost use Rattle.book_model.specs.Queries.{faults_query, file_query, label, links_query, member_place};
 ghost use Rattle.book_model.specs.Queries.{names_query, reference_place, text_of_reference};
-ghost use Rattle.project_book.specs.Held.{IsApplied};
-ghost use Rattle.linked_project.specs.Answered.{HasItsFiles, IsAnswered, IsFound, IsSpelt, IsTold};
+ghost use Rattle.book_model.specs.Proper.{IsProperLibrary};
+ghost use Rattle.project_book.specs.Held.{IsApplied, IsOpened, texts_of};
+ghost use Rattle.project_answers.specs.ImpliedLines.{IsLiveImplied};
+ghost use Rattle.linked_project.specs.Answered.{HasItsFiles, IsAnswered, IsFound, IsImplied, IsSpelt, IsTold};
 ghost use Rattle.linked_project.specs.Listed.{IsLiveFault, IsLiveRow};
 
 use crate::asked_pair::{pair_in, spelling_of};
@@ -19,6 +21,8 @@ use crate::texts::{label_text, name_text, reference_text};
 use book_model::{Edit, FaultRows, FileReport, LinkRows, Place};
 use demand_core::{Ledger, Steps};
 use element_store::{ElementNo, FileName, FileNo, MemberNo, Outcome, RefNo, Text};
+use implied_rules::ImpliedRows;
+use library_texts::LibraryFile;
 use linker_base::NoMemory;
 use project_answers::{Linking, name_in, present};
 use project_book::{Applied, ApplyFault, Project};
@@ -51,13 +55,15 @@ impl<G: Linking> Model for LinkedProject<G> {
 }
 
 impl<G: Linking> LinkedProject<G> {
-    /// A project without files.
-    pub fn new(alloc: Global) -> Result<Self, NoMemory>
-        ensures { IfOk result (λ p. p ≡ record { files = []; broken = false }) }
+    /// An empty book over a library, whose references are linked.
+    pub fn open(alloc: Global, library: &[LibraryFile]) -> Result<Self, NoMemory>
+        requires { IsProperLibrary (texts_of library.now) }
+        ensures opened { IfOk result (IsOpened library.now) }
+        ensures files { IfOk result HasItsFiles }
     {
-        let book = Project::new(alloc);
+        let book = Project::open(alloc, library)?;
         let mut links = G::none(alloc);
-        links.settle(book.files().models())?;
+        links.link(book.files().models())?;
         Ok(LinkedProject {
             alloc,
             book,
@@ -257,6 +263,21 @@ impl<G: Linking> LinkedProject<G> {
             return Err(QueryFault::Broken);
         }
         Ok(self.book.files().reference_place(reference))
+    }
+
+    /// The types of the book's files that specialise their base by implication, in byte order of the names of
+    /// files and then in the order of elements.
+    pub fn implied(&self) -> Result<ImpliedRows, QueryFault>
+        ensures implied { IsImplied self.now result }
+        ensures live { IfOk result (Each (IsLiveImplied self.now.files)) }
+    {
+        if self.broken {
+            return Err(QueryFault::Broken);
+        }
+        match self.links.implied(self.book.files().models()) {
+            Ok(rows) => Ok(rows),
+            Err(_) => Err(QueryFault::NoMemory),
+        }
     }
 
     /// What becomes of the qualified name that words are, asked for from outside. `BadName` comes exactly where

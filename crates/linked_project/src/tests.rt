@@ -6,6 +6,7 @@ use crate::{LinkedProject, QueryFault};
 use book_model::Edit;
 use demand_core::{Counted, Steps};
 use element_store::{FileName, FileNo, Models, Outcome, RefNo, Segments, Text};
+use implied_rules::ImpliedRows;
 use linker_base::NoMemory;
 use project_answers::Linking;
 use project_book::{Applied, ApplyFault};
@@ -26,8 +27,13 @@ impl Linking for NoLinks {
         }
     }
 
-    fn link(&mut self, _models: &Models) -> Result<(), NoMemory> {
-        Err(NoMemory)
+    fn link(&mut self, models: &Models) -> Result<(), NoMemory> {
+        // Of an empty project all files are followed.
+        if models.files() == 0 && self.followed.files() == 0 {
+            Ok(())
+        } else {
+            Err(NoMemory)
+        }
     }
 
     fn close(&mut self, _models: &Models, _file: FileNo) -> Result<(), NoMemory> {
@@ -43,6 +49,10 @@ impl Linking for NoLinks {
     }
 
     fn outcome(&self, _models: &Models, _reference: RefNo) -> Result<Outcome, NoMemory> {
+        Err(NoMemory)
+    }
+
+    fn implied(&self, _models: &Models) -> Result<ImpliedRows, NoMemory> {
         Err(NoMemory)
     }
 
@@ -79,7 +89,7 @@ fn file_fault(alloc: Global, project: &LinkedProject<NoLinks>, name: &[u8]) -> O
 
 #[test]
 fn want_of_memory_breaks_the_project(rt: HostRuntime) {
-    let Ok(mut project) = LinkedProject::<NoLinks>::new(rt.alloc()) else {
+    let Ok(mut project) = LinkedProject::<NoLinks>::open(rt.alloc(), &[]) else {
         panic!(rt; "no memory");
     };
     assert!(rt; file_fault(rt.alloc(), &project, b"a.sysml") == Some(QueryFault::NoSuchFile));
@@ -108,7 +118,7 @@ fn is_spelt(project: &LinkedProject<NoLinks>, words: &[u8], spelt: &[u8]) -> boo
 
 #[test]
 fn words_are_spelt_one_way(rt: HostRuntime) {
-    let Ok(project) = LinkedProject::<NoLinks>::new(rt.alloc()) else {
+    let Ok(project) = LinkedProject::<NoLinks>::open(rt.alloc(), &[]) else {
         panic!(rt; "no memory");
     };
     let rows: [(&[u8], &[u8]); 10] = [

@@ -7,7 +7,7 @@ use Rattle.element_store.specs.Stored.{AreFiles}
 use Rattle.book_model.specs.declared.asked_name.AskedName.{AskedName}
 use Rattle.book_model.specs.AskedNames.{AskFor}
 use Rattle.book_model.specs.Answers.{Command as Asked, find_answer}
-use Rattle.book_model.specs.Files.{AreFilesOf, ProjectFile, stored}
+use Rattle.book_model.specs.Files.{ProjectFile, stored}
 use Rattle.book_model.specs.Live.{NamesLive}
 use Rattle.book_model.specs.Outcomes.{found_of}
 use Rattle.book_model.specs.Printed.{outcome_text}
@@ -18,7 +18,7 @@ use Rattle.sysml_session.specs.Answered.{IsAnswered, IsGiven}
 use Rattle.sysml_session.specs.declared.answering.AnswerFault.{AnswerFault}
 use Rattle.sysml_session.specs.declared.answering.AnswerFault.TheVariants.{Limit, WriteFault, NoMemory}
 use Rattle.project_book.specs.Held.{Held}
-use Rattle.project_book.specs.Named.{book_of}
+use Rattle.project_book.specs.Named.{AreOfBook}
 use Rattle.project_answers.specs.Holds.{holding_of, IsTold}
 use Rattle.project_answers.proofs.AnswerLaws.{answered_as}
 
@@ -31,10 +31,10 @@ given_told output piece (Err NoMemory) g = absurd g
 
 -- a finding is answered
 pub find_answered : (held : Held) (words : List ℕ) (name : Option AskedName) (answer : List ℕ) (output : Move) (r : Result (Unit {0}) AnswerFault)
-    → held.broken ≡ false → AreFilesOf (book_of held.files) [] held.files → AskFor words name → answer ≡ find_answer held.files name
+    → held.broken ≡ false → AreOfBook held.files → AskFor words name → answer ≡ find_answer held.files name
     → IsGiven output answer r → IsAnswered (holding_of held) (holding_of held) (Asked.Find words) output r
 find_answered held words name answer output r whole are asked is given =
-    answered_as held held (Asked.Find words) answer output r refl refl whole are (name, asked, is)
+    answered_as held held (Asked.Find words) answer output r refl refl refl whole are (name, asked, is)
     (given_told output answer r given)
 
 -- what is found stands

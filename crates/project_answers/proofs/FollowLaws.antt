@@ -1,5 +1,5 @@
 -- The files whose edits are followed, over the going and coming of a text.
-use Rattle.std.proofs.Common.{◌≡◌, ℕ, ◌+◌, ◌<◌, ◌≤◌, zero, suc, Bool, true, false, cond, List, [], ◌∷◌, ◌++◌, map, length, refl, sym, ◌∙◌, ap, subst, inl, inr, arith}
+use Rattle.std.proofs.Common.{◌≡◌, ℕ, ◌+◌, ◌<◌, ◌≤◌, zero, suc, false, cond, List, [], ◌∷◌, ◌++◌, length, refl, sym, ◌∙◌, ap, subst, inl, inr, arith}
 use Rattle.std.specs.Prelude.{slice_get, Option, None, Some, ◌⊎◌}
 use Rattle.std.specs.Option.{option_map}
 use Rattle.linker_base.proofs.Cases.{bool_cases}
@@ -8,26 +8,24 @@ use Rattle.element_store.specs.declared.models.StoredFile.{StoredFile}
 use Rattle.element_store.specs.Model.{Data}
 use Rattle.element_store.specs.Stored.{with_model}
 use Rattle.link_model.specs.Edits.{HasCome}
-use Rattle.book_model.specs.Files.{Content, Entry, ProjectFile, AreFilesFrom, AreFilesOf, is_under, number_under, stored, stored_file, stored_from, with_content}
+use Rattle.book_model.specs.Files.{Content, ProjectFile, is_under, number_under, stored, stored_file, stored_from, with_content}
 use Rattle.book_model.specs.Readings.{language_of, model_by}
-use Rattle.project_book.specs.Named.{HaveMoved, book_of, text_in_content}
-use Rattle.project_answers.specs.Holds.{FollowedBefore, HaveMovedAt}
+use Rattle.project_book.specs.Named.{HaveMoved, IsOwn}
+use Rattle.project_book.proofs.NamedLaws.{own_moved}
+use Rattle.project_answers.specs.Holds.{FollowedBefore}
 use Rattle.project_answers.proofs.OrderLaws.{stored_long}
 
--- files of a book without a library are none of the library
-entry_of : ProjectFile → Entry
-entry_of f = record { name = f.name; library = false; text = text_in_content f.content }
+-- what is stored of a file of the book is none of the library
+own_from : (n : ℕ) (files : List ProjectFile) (f : ℕ) → ((g : ProjectFile) → slice_get files f ≡ Some g → g.library ≡ false)
+    → (s : StoredFile) → slice_get (stored_from n files) f ≡ Some s → s.library ≡ false
+own_from n [] f own s at = cc
+own_from n (x ∷ files) zero own s at =
+    let same : stored_file (record { 0 = n }) x ≡ s = cc in ap (λ (u : StoredFile). u.library) (sym same) ∙ own x refl
+own_from n (x ∷ files) (suc f) own s at = own_from (suc n) files f own s at
 
-own_from : (n : ℕ) (files : List ProjectFile) → AreFilesFrom n (map (λ e. record { name = e.0; library = false; text = e.1 }) (book_of files)) files
-    → (f : ℕ) (s : StoredFile) → slice_get (stored_from n files) f ≡ Some s → s.library ≡ false
-own_from n [] are f s at = cc
-own_from n (x ∷ files) are zero s at =
-    let same : stored_file (record { 0 = n }) x ≡ s = cc in ap (λ (u : StoredFile). u.library) (sym same) ∙ are.0.library
-own_from n (x ∷ files) are (suc f) s at = own_from (suc n) files are.1 f s at
-
-pub own_files : (files : List ProjectFile) → AreFilesOf (book_of files) [] files → (f : ℕ) (s : StoredFile) → slice_get (stored files) f ≡ Some s
+pub own_file : (files : List ProjectFile) (file : FileNo) → IsOwn files file → (s : StoredFile) → slice_get (stored files) file.0 ≡ Some s
     → s.library ≡ false
-own_files files are f s at = own_from 0 files are f s at
+own_file files file own s at = own_from 0 files file.0 own s at
 
 -- no model is replaced beyond the last file
 pub beyond : (files : List StoredFile) (f : ℕ) (m : Option Data) → length files ≤ f → with_model files f m ≡ files
@@ -91,12 +89,11 @@ with_length (x ∷ files) (suc f) m = ap suc (with_length files f m)
 
 -- THE COMING of a text, where the file is one of the project's
 came : (followed before now : List StoredFile) (f : ℕ) → followed ≡ with_model before f None → (now ≡ before) ⊎ (IsChanged before now f ⊎ IsMore before now f)
-    → (s : StoredFile) → slice_get now f ≡ Some s → f < length now → ((f : ℕ) (s : StoredFile) → slice_get now f ≡ Some s → s.library ≡ false)
-    → (followed ≡ with_model now f None) ⊎ ((now ≡ followed ++ s ∷ []) × (f ≡ length followed))
-came followed before now f is (inl same) s at lt own = inl (is ∙ ap (λ (fs : List StoredFile). with_model fs f None) (sym same))
-came followed before now f is (inr (inl h)) s at lt own =
+    → (s : StoredFile) → slice_get now f ≡ Some s → (followed ≡ with_model now f None) ⊎ ((now ≡ followed ++ s ∷ []) × (f ≡ length followed))
+came followed before now f is (inl same) s at = inl (is ∙ ap (λ (fs : List StoredFile). with_model fs f None) (sym same))
+came followed before now f is (inr (inl h)) s at =
     inl (is ∙ sym (twice before f h.model None) ∙ ap (λ (fs : List StoredFile). with_model fs f None) (sym h.is))
-came followed before now f is (inr (inr h)) s at lt own =
+came followed before now f is (inr (inr h)) s at =
     let same : followed ≡ before = is ∙ beyond before f None (let e = h.last in omega arith) in
     let file : h.file ≡ s = let there = last_at before h.file f h.last (subst (λ (fs : List StoredFile). slice_get fs f ≡ Some s) h.is at) in there in
     inr (h.is ∙ (λ i. sym same i ++ file i ∷ []), h.last ∙ ap length (sym same))
@@ -126,17 +123,16 @@ stored_moved before now name f place (inr h) = inr (subst
     (λ (n : ℕ). IsChanged (stored before) (stored (with_content before name h.0)) n ⊎ IsMore (stored before) (stored (with_content before name h.0)) n)
     place (kept_stored 0 before name h.0)))
 
-pub has_come : (followed : List StoredFile) (now : List ProjectFile) (file : FileNo) → FollowedBefore followed now file → AreFilesOf (book_of now) [] now
+pub has_come : (followed : List StoredFile) (now : List ProjectFile) (file : FileNo) → FollowedBefore followed now file
     → file.0 < length now → HasCome followed (stored now) file
-has_come followed now file before are lt =
+has_come followed now file before lt =
     let there = file_at (stored now) file.0 (let e = stored_long 0 now in omega (arith, lt)) in
-    let own = own_files now are in (
+    let own = own_file now file (own_moved before.before now before.moved.name file before.moved.place before.moved.moved) in (
       there.0,
       there.1,
-      own file.0 there.0 there.1,
+      own there.0 there.1,
       came followed (stored before.before) (stored now) file.0 before.followed_is
-          (stored_moved before.before now before.moved.name file.0 before.moved.place before.moved.moved) there.0 there.1
-          (let e = stored_long 0 now in omega (arith, lt)) own,
+          (stored_moved before.before now before.moved.name file.0 before.moved.place before.moved.moved) there.0 there.1,
     )
 
 pub has_not_come : (followed : List StoredFile) (now : List ProjectFile) (file : FileNo) → FollowedBefore followed now file → length now ≤ file.0
@@ -154,13 +150,13 @@ module _ (models : List StoredFile) (lent files : List ProjectFile) (count : ℕ
   pub stored_within : (f : ℕ) → f < count → f < length models
   stored_within f lt = let e = ap length is in let long = stored_long 0 lent in omega (arith, lt, counted)
 
-  pub stored_own : AreFilesOf (book_of files) [] files → (f : ℕ) (s : StoredFile) → slice_get models f ≡ Some s → s.library ≡ false
-  stored_own are f s at = own_files files are f s (subst (λ (fs : List StoredFile). slice_get fs f ≡ Some s) models_are at)
+  pub stored_own : (file : FileNo) → IsOwn files file → (s : StoredFile) → slice_get models file.0 ≡ Some s → s.library ≡ false
+  stored_own file own s at = own_file files file own s (subst (λ (fs : List StoredFile). slice_get fs file.0 ≡ Some s) models_are at)
 
-  pub stored_come : (followed : List StoredFile) (file : FileNo) → FollowedBefore followed files file → AreFilesOf (book_of files) [] files → file.0 < count
+  pub stored_come : (followed : List StoredFile) (file : FileNo) → FollowedBefore followed files file → file.0 < count
       → HasCome followed models file
-  stored_come followed file before are lt = subst (λ (fs : List StoredFile). HasCome followed fs file) (sym models_are)
-      (has_come followed files file before are (let e = ap length same in omega (arith, lt, counted)))
+  stored_come followed file before lt = subst (λ (fs : List StoredFile). HasCome followed fs file) (sym models_are)
+      (has_come followed files file before (let e = ap length same in omega (arith, lt, counted)))
 
 pub stays_beyond : (followed : List StoredFile) (lent files : List ProjectFile) (f count : ℕ) → lent ≡ files → count ≡ length lent → count ≤ f
     → followed ≡ stored files → followed ≡ with_model (stored files) f None

@@ -8,3 +8,5 @@ pub mod ListedLaws
 pub mod NameLaws
 pub mod FindLaws
 pub mod FollowLaws
+pub mod ShippedLibrary
+pub mod ImpliedLaws

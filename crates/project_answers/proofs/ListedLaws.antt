@@ -9,7 +9,7 @@ use Rattle.element_store.specs.declared.numbers.FileNo.{FileNo}
 use Rattle.element_store.specs.Model.{Data}
 use Rattle.element_store.specs.Stored.{AreFiles}
 use Rattle.book_model.specs.Answers.{Command as Asked, check_answer, line, links_answer, no_file, references_in}
-use Rattle.book_model.specs.Files.{AreFilesOf, Content, ProjectFile, content_under, name_at, ranked, stored}
+use Rattle.book_model.specs.Files.{Content, ProjectFile, content_under, name_at, ranked, stored}
 use Rattle.book_model.specs.Printed.{row_text}
 use Rattle.book_model.specs.Queries.{faults_query, links_over, links_query, reports}
 use Rattle.book_model.specs.Readings.{Reading, language_of, model_by}
@@ -22,7 +22,7 @@ use Rattle.sysml_session.specs.declared.answering.AnswerFault.{AnswerFault}
 use Rattle.sysml_session.specs.declared.answering.AnswerFault.TheVariants.{Limit, WriteFault, NoMemory}
 use Rattle.project_files.specs.Kept.{content_at}
 use Rattle.project_book.specs.Held.{Held}
-use Rattle.project_book.specs.Named.{IsNumberUnder, book_of}
+use Rattle.project_book.specs.Named.{AreOfBook, IsNumberUnder}
 use Rattle.project_book.proofs.NamedLaws.{content_found}
 use Rattle.project_answers.specs.declared.lines.Counts.{Counts}
 use Rattle.project_answers.specs.declared.rows.Listing.TheVariants.{All as Everything}
@@ -80,7 +80,7 @@ module _ (h : Holding) (c : Asked) (done : IsDone h h c) where
 -- ---- the links of a file
 
 -- the links of a file are asked
-abbrev pub links_asked : (held : Held) (name answer : List ℕ) → held.broken ≡ false → AreFilesOf (book_of held.files) [] held.files
+abbrev pub links_asked : (held : Held) (name answer : List ℕ) → held.broken ≡ false → AreOfBook held.files
     → answer ≡ links_answer held.files name (links_query held.files name)
     → IsDone (holding_of held) (holding_of held) (Asked.Links name)
 links_asked held name answer whole are is = record {
@@ -115,7 +115,7 @@ links_listed files name n kept (c, under, at) =
         (lines.0 ∙ ap (flat_map (λ row. row_text files row ++ codes "\n")) (sym none), lines.1 ∙ ap length (sym none))
 
 -- the answer that no text is present was given
-pub links_gone : (held : Held) (name : List ℕ) → held.broken ≡ false → AreFilesOf (book_of held.files) [] held.files
+pub links_gone : (held : Held) (name : List ℕ) → held.broken ≡ false → AreOfBook held.files
     → IsPresentAt held.files name None → (a d : Stream) (last : List ℕ) (r : Result (Unit {0}) AnswerFault)
     → last ≡ line (codes "links") name no_file → IsGiven (moved a d) last r
     → IsAnswered (holding_of held) (holding_of held) (Asked.Links name) (moved a d) r
@@ -124,7 +124,7 @@ links_gone held name whole are none a d last r is given =
     (links_asked held name (links_answer held.files name (links_query held.files name)) whole are refl) a d last r
     (is ∙ links_none held.files name none) given
 
-module _ (held : Held) (name : List ℕ) (n : FileNo) (whole : held.broken ≡ false) (are : AreFilesOf (book_of held.files) [] held.files)
+module _ (held : Held) (name : List ℕ) (n : FileNo) (whole : held.broken ≡ false) (are : AreOfBook held.files)
     (kept : AreFiles (stored held.files)) (there : IsPresentAt held.files name (Some n)) where
   done_links : IsDone (holding_of held) (holding_of held) (Asked.Links name)
   done_links = links_asked held name
@@ -160,7 +160,7 @@ module _ (held : Held) (name : List ℕ) (n : FileNo) (whole : held.broken ≡ f
 -- ---- what is wrong with all files
 
 -- it is asked
-abbrev pub check_asked : (held : Held) (answer : List ℕ) → held.broken ≡ false → AreFilesOf (book_of held.files) [] held.files
+abbrev pub check_asked : (held : Held) (answer : List ℕ) → held.broken ≡ false → AreOfBook held.files
     → answer ≡ check_answer held.files (reports held.files) (faults_query held.files)
     → IsDone (holding_of held) (holding_of held) Asked.Check
 check_asked held answer whole are is = record {
@@ -215,7 +215,7 @@ part_moved output fs files ms ns r e q part =
     subst (λ gs. IsPart output (lines_at gs ns) (sum_of (wrong_count_at gs) ns) r) e
     (subst (λ ks. IsPart output (lines_at fs ks) (sum_of (wrong_count_at fs) ks) r) q part)
 
-module _ (held : Held) (ns : List FileNo) (whole : held.broken ≡ false) (are : AreFilesOf (book_of held.files) [] held.files)
+module _ (held : Held) (ns : List FileNo) (whole : held.broken ≡ false) (are : AreOfBook held.files)
     (order : presents held.files ns ≡ ranked held.files) where
   -- the counts of all files
   all_counts : Counts

@@ -1,6 +1,6 @@
 -- The present files of a book, by the ranks of all files, are the ranked ones.
-use Rattle.std.proofs.Common.{◌≡◌, ◌∙◌, ◌⊎◌, ◌+◌, ◌<◌, ℕ, zero, suc, Bool, true, false, List, [], ◌∷◌, ◌++◌, length, map, refl, sym, ap, subst, inl, inr, arith}
-use Rattle.std.specs.Prelude.{All, slice_get, Option, Some, None}
+use Rattle.std.proofs.Common.{◌≡◌, ◌∙◌, ◌⊎◌, ◌+◌, ◌<◌, ◌≤◌, ℕ, zero, suc, Bool, true, false, List, [], ◌∷◌, ◌++◌, length, map, refl, sym, ap, subst, inl, inr, arith}
+use Rattle.std.specs.Prelude.{All, not, slice_get, Option, Some, None}
 use Rattle.std.specs.List.{flat_map}
 use Rattle.std.specs.Map.{keys_of}
 use Rattle.std.specs.Cmp.Lexicographic.{slice_cmp}
@@ -15,14 +15,13 @@ use Rattle.linker_base.proofs.MemberLaws.{member_left, member_right, member_case
 use Rattle.linker_base.proofs.OrderLaws.{order_pins}
 use Rattle.element_store.specs.declared.numbers.FileNo.{FileNo}
 use Rattle.element_store.specs.declared.models.StoredFile.{StoredFile}
+use Rattle.element_store.specs.Numbers.{those_where}
 use Rattle.element_store.specs.Stored.{in_order, stands_before, rank_of, HasRank, AreFiles}
-use Rattle.element_store.proofs.RankLaws.{where_few, where_lt, before_itself, before_other, rank_lt, rank_once, name_once}
-use Rattle.book_model.specs.Book.{Book}
-use Rattle.book_model.specs.Files.{Content, ProjectFile, Present, AreFilesFrom, AreFilesOf, present_by, present, ranked, stored_file, stored_from, stored}
+use Rattle.element_store.proofs.RankLaws.{where_few, before_other, library_above, project_below, rank_lt, rank_once, name_once}
+use Rattle.book_model.specs.Files.{Content, ProjectFile, Present, present_by, present, ranked, stored_file, stored_from, stored}
 use Rattle.book_model.specs.Laws.{IsBelow}
-use Rattle.book_model.proofs.FileLaws.{book_entry}
 use Rattle.book_model.proofs.RankedLaws.{files_ranked, ranked_rise}
-use Rattle.project_book.specs.Named.{book_of}
+use Rattle.project_book.specs.Named.{text_in_content, of_book, library_in, book_of, AreOfBook, IsOwn}
 use Rattle.project_answers.specs.Wrong.{present_at, presents}
 
 -- ---- lists
@@ -32,6 +31,12 @@ place_of_member : {A : Type 0} (xs : List A) (y : A) → IsMember xs y → (i : 
 place_of_member [] y m = absurd m
 place_of_member (x ∷ xs) y (inl e) = (zero, ap (λ z. Some z) e)
 place_of_member (x ∷ xs) y (inr m) = let at = place_of_member xs y m in (suc at.0, at.1)
+
+-- a place where something stands is below the length
+below : {A : Type 0} (xs : List A) (i : ℕ) (x : A) → slice_get xs i ≡ Some x → i < length xs
+below [] i x e = cc
+below (y ∷ xs) zero x e = omega arith
+below (y ∷ xs) (suc i) x e = let lt = below xs i x e in omega (arith, lt)
 
 -- at a place below the length stands a member
 stands_at : {A : Type 0} (xs : List A) (i : ℕ) → i < length xs → (x : A) × (slice_get xs i ≡ Some x)
@@ -100,23 +105,60 @@ file_at_from n (g ∷ files) zero x e =
     (g, refl, sym (ap (λ (h : StoredFile). h.name) is), sym (ap (λ (h : StoredFile). h.library) is))
 file_at_from n (g ∷ files) (suc i) x e = file_at_from (suc n) files i x e
 
--- what is stored has the names of the book
-names_stored : (n : ℕ) (files : List ProjectFile) → map (λ (x : StoredFile). x.name) (stored_from n files) ≡ keys_of (book_of files)
-names_stored n [] = refl
-names_stored n (f ∷ files) = ap (λ names. f.name ∷ names) (names_stored (suc n) files)
+-- a name of the book is one of what is stored
+book_named : (n : ℕ) (files : List ProjectFile) (name : List ℕ) → IsMember (keys_of (book_of files)) name
+    → IsMember (map (λ (x : StoredFile). x.name) (stored_from n files)) name
+book_named n [] name m = absurd m
+book_named n (f ∷ files) name m = by f.library m (book_named (suc n) files name) where
+  by : (b : Bool) → IsMember (keys_of (of_book b (f.name, text_in_content f.content) ++ book_of files)) name
+      → (IsMember (keys_of (book_of files)) name → IsMember (map (λ (x : StoredFile). x.name) (stored_from (suc n) files)) name)
+      → IsMember (f.name ∷ map (λ (x : StoredFile). x.name) (stored_from (suc n) files)) name
+  by true m more = inr (more m)
+  by false (inl is) more = inl is
+  by false (inr m) more = inr (more m)
+
+-- so the names of the book stand once where those of what is stored do
+book_once : (n : ℕ) (files : List ProjectFile) → IsEachOnce (map (λ (x : StoredFile). x.name) (stored_from n files))
+    → IsEachOnce (keys_of (book_of files))
+book_once n [] once = tt
+book_once n (f ∷ files) once = by f.library (λ m. once.0 (book_named (suc n) files f.name m)) (book_once (suc n) files once.1) where
+  by : (b : Bool) → (IsMember (keys_of (book_of files)) f.name → ⊥) → IsEachOnce (keys_of (book_of files))
+      → IsEachOnce (keys_of (of_book b (f.name, text_in_content f.content) ++ book_of files))
+  by true apart more = more
+  by false apart more = (apart, more)
 
 pub stored_long : (n : ℕ) (files : List ProjectFile) → length (stored_from n files) ≡ length files
 stored_long n [] = refl
 stored_long n (f ∷ files) = ap suc (stored_long (suc n) files)
 
--- no file of a book is one of the library
-pub own_from : (n : ℕ) (book : Book) (files : List ProjectFile) → AreFilesFrom n (map book_entry book) files → (i : ℕ) (f : ProjectFile)
-    → slice_get files i ≡ Some f → f.library ≡ false
-own_from n [] [] are i f e = cc
-own_from n [] (g ∷ files) are i f e = absurd are
-own_from n (b ∷ book) [] are i f e = absurd are
-own_from n (b ∷ book) (g ∷ files) are zero f e = ap (λ h. h.library) (sym (some_same g f e)) ∙ are.0.library
-own_from n (b ∷ book) (g ∷ files) are (suc i) f e = own_from (suc n) book files are.1 i f e
+-- how many files are the book's
+abbrev pub own_count : List ProjectFile → ℕ
+own_count files = length (those_where (λ (x : StoredFile). not x.library) (stored files))
+
+-- they are no more than all
+pub own_few : (files : List ProjectFile) → own_count files ≤ length (stored files)
+own_few files = where_few (λ (x : StoredFile). not x.library) (stored files)
+
+-- a file of a lesser rank is the book's
+ranked_own : (all : List StoredFile) (x : StoredFile) → rank_of all x < length (those_where (λ (y : StoredFile). not y.library) all)
+    → x.library ≡ false
+ranked_own all x lt = by x.library refl where
+  by : (b : Bool) → x.library ≡ b → x.library ≡ false
+  by true fixed = absurd (omega (arith, lt, library_above all x fixed))
+  by false own = own
+
+-- so the file of that number is
+pub own_ranked : (files : List ProjectFile) (r : ℕ) (n : FileNo) → HasRank (stored files) r n.0 → r < own_count files → IsOwn files n
+own_ranked files r n has lt f at =
+    let x = stored_at_from 0 files n.0 f at in
+    let same : has.0 ≡ x.0 = some_same has.0 x.0 (sym has.1 ∙ x.1) in
+    let rank : rank_of (stored files) x.0 ≡ r = ap (rank_of (stored files)) (sym same) ∙ has.2 in
+    sym x.3 ∙ ranked_own (stored files) x.0 (subst (λ k. k < own_count files) (sym rank) lt)
+
+-- what is present is of a file of the book
+own_present : (name : List ℕ) (b : Bool) (c : Option Content) (p : Present) → IsMember (present_by name b c) p → b ≡ false
+own_present name true c p m = absurd m
+own_present name false c p m = refl
 
 -- ---- present files
 
@@ -223,10 +265,11 @@ less_by false false x y e f h = by (slice_cmp nat_cmp x y) h where
 one_way : (p q : Present) → IsBelow p q → IsBelow q p → ⊥
 one_way p q a b = let turned : Less ≡ Greater = sym a ∙ nat_list_cmp_total.antisymm p.name q.name ∙ ap ordering_reverse b in cc
 
-module _ (files : List ProjectFile) (are : AreFilesOf (book_of files) [] files) (kept : AreFiles (stored files)) where
-  -- of two files the one of the lesser rank stands before the other
-  lesser_first : (r s : ℕ) (m n : FileNo) → r < s → HasRank (stored files) r m.0 → HasRank (stored files) s n.0 → StandsFirst files m n
-  lesser_first r s m n lt a b f g at there =
+module _ (files : List ProjectFile) (are : AreOfBook files) (kept : AreFiles (stored files)) where
+  -- of two files of the book the one of the lesser rank stands before the other
+  lesser_first : (r s : ℕ) (m n : FileNo) → r < s → s < own_count files → HasRank (stored files) r m.0 → HasRank (stored files) s n.0
+      → StandsFirst files m n
+  lesser_first r s m n lt few a b f g at there =
       let x = stored_at_from 0 files m.0 f at in
       let y = stored_at_from 0 files n.0 g there in
       let same = some_same a.0 x.0 (sym a.1 ∙ x.1) in
@@ -234,10 +277,10 @@ module _ (files : List ProjectFile) (are : AreFilesOf (book_of files) [] files) 
       let below : rank_of (stored files) x.0 < rank_of (stored files) y.0 =
       subst (λ k. k < rank_of (stored files) y.0) (sym a.2 ∙ ap (rank_of (stored files)) same)
       (subst (λ k. r < k) (sym b.2 ∙ ap (rank_of (stored files)) other) lt) in
-      let own = own_from 0 (book_of files) files are in
       let before : stands_before x.0 y.0 ≡ true = less_before x.0 y.0 m.0 n.0 x.1 y.1 below in
       subst (λ (k : List ℕ). slice_cmp nat_cmp k g.name ≡ Less) x.2 (subst (λ (k : List ℕ). slice_cmp nat_cmp x.0.name k ≡ Less) y.2
-      (less_by x.0.library y.0.library x.0.name y.0.name (x.3 ∙ own m.0 f at) (y.3 ∙ own n.0 g there) before))
+      (less_by x.0.library y.0.library x.0.name y.0.name (x.3 ∙ own_ranked files r m a (omega (arith, lt, few)) f at)
+      (y.3 ∙ own_ranked files s n b few g there) before))
     where
       tests : (b : Bool) → (b ≡ true) ⊎ (b ≡ false)
       tests true = inl refl
@@ -264,23 +307,17 @@ module _ (files : List ProjectFile) (are : AreFilesOf (book_of files) [] files) 
         ]
       ]
 
-  -- a file has fewer files before it than there are
-  few_before : (i : ℕ) (x : StoredFile) → slice_get (stored files) i ≡ Some x → rank_of (stored files) x < length (stored files)
-  few_before i x at =
-      let lt = where_lt (λ y. stands_before y x) (λ y. true) (stored files) i x (λ y h. refl) at (before_itself x.library x.name) refl in
-      let le = where_few (λ (y : StoredFile). true) (stored files) in omega (arith, lt, le)
-
-  -- all files in the order of ranks have those present among them
-  all_present : (order : List FileNo) → HaveRanks files (length files) order → SameMembers (presents files order) (present files)
+  -- all files of the book in the order of ranks have those present among them
+  all_present : (order : List FileNo) → HaveRanks files (own_count files) order → SameMembers (presents files order) (present files)
   all_present order h = record {
     left = λ p m. let t = told_by (present_at files) order p m in let f = present_of files t.0 p t.2 in placed_present files t.0.0 f.0 p f.1 f.2;
     right = λ p m.
         let at = present_placed files p m in
         let x = stored_at_from 0 files at.0 at.1 at.2 in
-        let few = few_before at.0 x.0 x.1 in
+        let own = x.3 ∙ own_present at.1.name at.1.library at.1.content p at.3 in
+        let few = project_below (stored files) at.0 x.0 x.1 own in
         let long = h.long in
-        let stored = stored_long 0 files in
-        let n = stands_at order (rank_of (stored_from 0 files) x.0) (omega (arith, few, long, stored)) in
+        let n = stands_at order (rank_of (stored_from 0 files) x.0) (omega (arith, few, long)) in
         let has = h.each (rank_of (stored_from 0 files) x.0) n.0 n.1 in
         let here : n.0.0 ≡ at.0 = rank_once (stored_from 0 files) (rank_of (stored_from 0 files) x.0) n.0.0 at.0 kept.names has (x.0, x.1, refl) in
         let file : slice_get files n.0.0 ≡ Some at.1 = ap (slice_get files) here ∙ at.2 in
@@ -288,11 +325,12 @@ module _ (files : List ProjectFile) (are : AreFilesOf (book_of files) [] files) 
   }
 
   -- THE ORDER of ranks is that of names
-  pub order_ranked : (order : List FileNo) → HaveRanks files (length files) order → presents files order ≡ ranked files
+  pub order_ranked : (order : List FileNo) → HaveRanks files (own_count files) order → presents files order ≡ ranked files
   order_ranked order h =
-      let once : IsEachOnce (keys_of (book_of files)) = subst IsEachOnce (names_stored 0 files) kept.names in
+      let once : IsEachOnce (keys_of (book_of files)) = book_once 0 files kept.names in
       let first : AreInOrder (StandsFirst files) order =
-      in_order_by (StandsFirst files) order (λ i j m n lt a b. lesser_first i j m n lt (h.each i m a) (h.each j n b)) in
+      in_order_by (StandsFirst files) order
+      (λ i j m n lt a b. lesser_first i j m n lt (omega (arith, below order j n b, h.long)) (h.each i m a) (h.each j n b)) in
       let rise : AreInOrder IsBelow (presents files order) =
       told_in_order (present_at files) (StandsFirst files) IsBelow order (short_at files) (λ m n p q before here there.
       let f = present_of files m p here in
@@ -300,5 +338,5 @@ module _ (files : List ProjectFile) (are : AreFilesOf (book_of files) [] files) 
       subst (λ (k : List ℕ). slice_cmp nat_cmp k q.name ≡ Less) (sym (named_by f.0.name f.0.library f.0.content p f.2))
       (subst (λ (k : List ℕ). slice_cmp nat_cmp f.0.name k ≡ Less) (sym (named_by g.0.name g.0.library g.0.content q g.2)) (before f.0 g.0 f.1 g.1))) first in
       let same = all_present order h in
-      order_pins IsBelow one_way (presents files order) (ranked files) rise (ranked_rise (book_of files) [] files once are)
+      order_pins IsBelow one_way (presents files order) (ranked files) rise (ranked_rise (book_of files) (library_in files) files once are)
       (same_through same (record { left = (files_ranked files).same.right; right = (files_ranked files).same.left }))

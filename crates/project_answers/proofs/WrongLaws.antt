@@ -12,7 +12,7 @@ use Rattle.book_model.specs.declared.rows.FileReport.{FileReport}
 use Rattle.book_model.specs.declared.rows.FileReport.TheVariants.{In, Refused}
 use Rattle.book_model.specs.declared.rows.Place.{Place}
 use Rattle.book_model.specs.Answers.{references_in}
-use Rattle.book_model.specs.Files.{AreFilesOf, Content, Present, ProjectFile, name_at, present_by, stored}
+use Rattle.book_model.specs.Files.{Content, Present, ProjectFile, name_at, present_by, stored}
 use Rattle.book_model.specs.Live.{HasModel}
 use Rattle.book_model.specs.Places.{place_of}
 use Rattle.book_model.specs.Printed.{fault_row_text}
@@ -21,27 +21,26 @@ use Rattle.book_model.specs.Readings.{Reading, fault_place, language_of, model_b
 use Rattle.book_model.specs.Rows.{faults_by, report_by, report_of}
 use Rattle.element_store.specs.Model.{Data}
 use Rattle.project_files.specs.Kept.{content_at}
-use Rattle.project_book.specs.Named.{book_of}
+use Rattle.project_book.specs.Named.{IsOwn}
 use Rattle.project_answers.specs.declared.rows.Listing.TheVariants.{Faults}
 use Rattle.project_answers.specs.declared.lines.Counts.{Counts}
 use Rattle.project_answers.specs.Lines.{counts_with}
 use Rattle.project_answers.specs.Parts.{sum_of}
 use Rattle.project_answers.specs.RowLines.{file_lines, file_counts}
 use Rattle.project_answers.specs.Wrong.{present_at, presents, wrong_with, wrong_lines, wrong_at, wrong_lines_at, wrong_count_at, lines_at}
-use Rattle.project_answers.proofs.OrderLaws.{own_from}
 use Rattle.project_answers.proofs.PartLaws.{told_both, more_at}
 use Rattle.project_answers.proofs.RowLaws.{content_file, content_model, rows_wrong}
 
 -- ---- the present file at a number
 
 -- the file of a content is present
-pub present_is : (files : List ProjectFile) (n : FileNo) (c : Content) → AreFilesOf (book_of files) [] files → content_at files n ≡ Some c
+pub present_is : (files : List ProjectFile) (n : FileNo) (c : Content) → IsOwn files n → content_at files n ≡ Some c
     → present_at files n ≡ record { name = name_at files n; content = c } ∷ []
-present_is files n c are at =
+present_is files n c own at =
     let f = content_file files n c at in
     let name : f.0.name ≡ name_at files n = sym (ap (λ o. option_map_or (λ (g : ProjectFile). g.name) o []) f.1) in
     ap (λ o. option_map_or (λ (g : ProjectFile). present_by g.name g.library g.content) o []) f.1
-    ∙ (ap (λ b. present_by f.0.name b f.0.content) (own_from 0 (book_of files) files are n.0 f.0 f.1)
+    ∙ (ap (λ b. present_by f.0.name b f.0.content) (own f.0 f.1)
     ∙ (ap (present_by f.0.name false) f.2 ∙ ap (λ name. record { name = name; content = c } ∷ []) name))
 
 -- one without a content isn't
@@ -91,9 +90,9 @@ refused_content (Some c) fault place e = by c.reading refl where
 -- ---- what is wrong with a file
 
 -- what is wrong with the file of a content
-pub wrong_is : (files : List ProjectFile) (n : FileNo) (c : Content) → AreFilesOf (book_of files) [] files → content_at files n ≡ Some c
+pub wrong_is : (files : List ProjectFile) (n : FileNo) (c : Content) → IsOwn files n → content_at files n ≡ Some c
     → wrong_at files n ≡ faults_by (links_over files) (name_at files n) c.text c.reading
-wrong_is files n c are at = ap (flat_map (wrong_with files)) (present_is files n c are at) ∙ append-nil _
+wrong_is files n c own at = ap (flat_map (wrong_with files)) (present_is files n c own at) ∙ append-nil _
 
 -- nothing where its text is gone
 pub wrong_none : (files : List ProjectFile) (n : FileNo) → None ≡ option_map report_of (content_at files n)
@@ -103,23 +102,23 @@ wrong_none files n none =
     (ap (wrong_lines files) wrong, ap length wrong)
 
 -- its refusal
-pub wrong_refused : (files : List ProjectFile) (n : FileNo) (fault : FileFault) (place : Place) → AreFilesOf (book_of files) [] files
+pub wrong_refused : (files : List ProjectFile) (n : FileNo) (fault : FileFault) (place : Place) → IsOwn files n
     → Some (Refused fault place) ≡ option_map report_of (content_at files n)
     → (fault_row_text files (File (name_at files n) fault place) ++ codes "\n" ≡ wrong_lines_at files n) × (1 ≡ wrong_count_at files n)
-wrong_refused files n fault place are report =
+wrong_refused files n fault place own report =
     let c = refused_content (content_at files n) fault place report in
     let wrong : wrong_at files n ≡ File (name_at files n) fault place ∷ [] =
-    wrong_is files n c.0 are c.1
+    wrong_is files n c.0 own c.1
     ∙ (ap (faults_by (links_over files) (name_at files n) c.0.text) c.2 ∙ ap (λ p. File (name_at files n) fault p ∷ []) (sym c.3)) in
     (sym (ap (wrong_lines files) wrong ∙ append-nil _), sym (ap length wrong))
 
 -- or its rows
-pub wrong_read : (files : List ProjectFile) (n : FileNo) (elements references : ℕ) → AreFilesOf (book_of files) [] files → AreFiles (stored files)
+pub wrong_read : (files : List ProjectFile) (n : FileNo) (elements references : ℕ) → IsOwn files n → AreFiles (stored files)
     → Some (In elements references) ≡ option_map report_of (content_at files n)
     → (file_lines Faults files n ≡ wrong_lines_at files n) × (file_counts Faults files n ≡ wrong_count_at files n)
-wrong_read files n elements references are kept report =
+wrong_read files n elements references own kept report =
     let c = read_content (content_at files n) elements references report in
-    let wrong = wrong_is files n c.0 are c.1 in
+    let wrong = wrong_is files n c.0 own c.1 in
     let rows = rows_wrong files n c.0 c.2 c.1 c.3 kept (name_at files n) refl in
     (rows.0 ∙ ap (wrong_lines files) (sym wrong), rows.1 ∙ ap length (sym wrong))
 
@@ -200,15 +199,15 @@ counted_gone files ns i count references d lt report h =
 
 -- one that is
 pub counted_more : (files : List ProjectFile) (ns : List FileNo) (i count references : ℕ) (d : FileNo) (r : FileReport) (more : ℕ) → i < length ns
-    → AreFilesOf (book_of files) [] files → Some r ≡ option_map report_of (content_at files (get_or ns i d))
+    → IsOwn files (get_or ns i d) → Some r ≡ option_map report_of (content_at files (get_or ns i d))
     → more ≡ references_in (r ∷ []) → more < 4294967296 → AreCounted files ns i count references
     → AreCounted files ns (i + 1) (count + 1) (references + more)
-counted_more files ns i count references d r more lt are report told below h =
+counted_more files ns i count references d r more lt own report told below h =
     let n = get_or ns i d in
     let c = found n (content_at files n) refl report in
     let p : Present = record { name = name_at files n; content = c.0 } in
     let next : presents files (take (i + 1) ns) ≡ presents files (take i ns) ++ p ∷ [] =
-    counted_next files ns i d lt ∙ ap (λ ps. presents files (take i ns) ++ ps) (present_is files n c.0 are c.1) in
+    counted_next files ns i d lt ∙ ap (λ ps. presents files (take i ns) ++ ps) (present_is files n c.0 own c.1) in
     let files_were = h.files_are in
     let references_were = h.references_are in
     let few = h.few in
@@ -243,12 +242,12 @@ counted_more files ns i count references d r more lt are report told below h =
 
 -- one file more, whatever is told of it
 pub counted_with : (files : List ProjectFile) (ns : List FileNo) (i : ℕ) (counts : Counts) (d : FileNo) (o : Option FileReport) → i < length ns
-    → AreFilesOf (book_of files) [] files → o ≡ option_map report_of (content_at files (get_or ns i d))
+    → IsOwn files (get_or ns i d) → o ≡ option_map report_of (content_at files (get_or ns i d))
     → IfSome o (λ r. references_in (r ∷ []) < 4294967296) → AreCounted files ns i counts.files counts.references
     → AreCounted files ns (i + 1) (counts_with counts o).files (counts_with counts o).references
-counted_with files ns i counts d None lt are told below h = counted_gone files ns i counts.files counts.references d lt told h
-counted_with files ns i counts d (Some r) lt are told below h =
-    counted_more files ns i counts.files counts.references d r (references_in (r ∷ [])) lt are told refl below h
+counted_with files ns i counts d None lt own told below h = counted_gone files ns i counts.files counts.references d lt told h
+counted_with files ns i counts d (Some r) lt own told below h =
+    counted_more files ns i counts.files counts.references d r (references_in (r ∷ [])) lt own told refl below h
 
 -- the faults stay
 pub faults_stay : (counts : Counts) (o : Option FileReport) → (counts_with counts o).faults ≡ counts.faults

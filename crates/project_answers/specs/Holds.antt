@@ -10,11 +10,11 @@ use Rattle.element_store.specs.Stored.{with_model}
 use Rattle.book_model.specs.Files.{Content, ProjectFile, content_under, number_under, stored}
 use Rattle.project_files.specs.Kept.{content_at}
 use Rattle.project_book.specs.Held.{Held}
-use Rattle.project_book.specs.Named.{book_of, HaveMoved}
+use Rattle.project_book.specs.Named.{book_of, library_in, HaveMoved}
 
--- the book of its files over no library, and its mark
+-- the book of its files over its library, and its mark
 abbrev pub holding_of : Held → Holding
-holding_of held = record { library = []; book = book_of held.files; broken = held.broken }
+holding_of held = record { library = library_in held.files; book = book_of held.files; broken = held.broken }
 
 -- a piece was given, or a front of it; or memory was wanting before
 abbrev pub IsTold : Move → List ℕ → Result (Unit {0}) AnswerFault → Type 0

@@ -5,3 +5,4 @@ pub mod Parts
 pub mod RowLines
 pub mod Wrong
 pub mod Words
+pub mod ImpliedLines

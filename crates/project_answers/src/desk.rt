@@ -1,16 +1,20 @@
-ghost use Rattle.std.specs.Prelude.{◌≡◌, OnOk, [], false};
+ghost use Rattle.std.specs.Prelude.{◌≡◌, IfOk, OnOk};
 ghost use Rattle.book_model.specs.Files.{stored};
+ghost use Rattle.library_texts.specs.Texts as texts;
+ghost use Rattle.project_book.specs.Held.{IsOpenedOver};
 ghost use Rattle.project_answers.specs.Holds.{all_linked, holding_of};
 
 use crate::edits::{answer_drop, answer_put};
 use crate::finding::{answer_bad_name, answer_find};
 use crate::following::{close, open, place_of};
+use crate::implications::answer_implied;
 use crate::linking::Linking;
 use crate::links::{answer_links, answer_no_links, present};
 use crate::words::name_in;
 use crate::wrong::answer_check;
 use demand_core::{Ledger, Steps};
 use element_store::{FileName, Text};
+use library_texts::library;
 use linker_base::NoMemory;
 use outside_core::Sink;
 use project_book::Project;
@@ -50,16 +54,18 @@ impl<G: Linking> Model for Desk<G> {
 }
 
 impl<G: Linking> Desk<G> {
-    /// A project without files. It takes no memory.
-    pub fn new(alloc: Global) -> Self
-        ensures { result.held ≡ record { files = []; broken = false } }
+    /// A project without files of its own, over the library of this product. The library is linked with the
+    /// first question.
+    pub fn new(alloc: Global) -> Result<Self, NoMemory>
+        ensures { IfOk result (λ desk. IsOpenedOver texts.library desk.held) }
     {
-        Desk {
+        let project = Project::open(alloc, library())?;
+        Ok(Desk {
             alloc,
-            project: Project::new(alloc),
+            project,
             linking: G::none(alloc),
-            is_following: true,
-        }
+            is_following: false,
+        })
     }
 
     /// Links what the edits since the last question may have changed.
@@ -125,6 +131,13 @@ impl<G: Linking> Answering for Desk<G> {
         }
     }
 
+    fn implied<K: Sink>(&mut self, output: &mut K) -> Result<(), AnswerFault> {
+        match self.link() {
+            Ok(()) => answer_implied(self.alloc, &self.project, &self.linking, output),
+            Err(_) => Err(AnswerFault::NoMemory),
+        }
+    }
+
     fn find<K: Sink>(&mut self, words: &Text, output: &mut K) -> Result<(), AnswerFault> {
         match name_in(self.alloc, words.bytes()) {
             Err(_) => Err(AnswerFault::NoMemory),
@@ -145,9 +158,9 @@ impl<G: Linking> Answering for Desk<G> {
 }
 
 impl<G: Linking> Opening for Desk<G> {
-    ghost library = { [] };
+    ghost library = { texts.library };
 
     fn open<L: Ledger>(alloc: Global, _steps: &mut Steps<L>) -> Result<Self, NoMemory> {
-        Ok(Desk::new(alloc))
+        Desk::new(alloc)
     }
 }

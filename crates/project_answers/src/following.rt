@@ -1,6 +1,7 @@
 ghost use Rattle.std.specs.Prelude.{◌≡◌, None, true};
 ghost use Rattle.element_store.specs.Stored.{with_model};
 ghost use Rattle.book_model.specs.Files.{number_under, stored};
+ghost use Rattle.project_book.specs.Named.{IsOwn};
 ghost use Rattle.project_answers.specs.Holds.{FollowedBefore};
 
 use crate::linking::Linking;
@@ -9,7 +10,8 @@ use project_book::Project;
 
 /// The number of the file under a name. A new name will have the number after the last one.
 pub fn place_of(project: &Project, name: &FileName) -> FileNo
-    ensures { result.0 ≡ number_under project.now.files name.now }
+    ensures place { result.0 ≡ number_under project.now.files name.now }
+    ensures own { IsOwn project.now.files result }
 {
     match project.number(name) {
         Some(file) => file,
@@ -20,7 +22,8 @@ pub fn place_of(project: &Project, name: &FileName) -> FileNo
 /// Follows the going of the text of a file, if it is one of the project's. Says whether the links still
 /// follow.
 pub fn close<G: Linking>(linking: &mut G, project: &Project, file: FileNo) -> bool
-    requires { (G.follows linking.old).files ≡ stored project.now.files }
+    requires over { (G.follows linking.old).files ≡ stored project.now.files }
+    requires own { IsOwn project.now.files file }
     ensures { result ≡ true
         → (G.follows linking.new).files ≡ with_model (stored project.now.files) file.0 None }
 {

@@ -8,6 +8,7 @@ mod desk;
 mod edits;
 mod finding;
 mod following;
+mod implications;
 mod lines;
 mod linking;
 mod links;

@@ -4,10 +4,12 @@ ghost use Rattle.element_store.specs.Stored.{with_model};
 ghost use Rattle.element_store.specs.declared.models.StoredFile.{StoredFile};
 ghost use Rattle.link_model.specs.Edits.{HasCome};
 ghost use Rattle.link_model.specs.Outside.{keys_of};
-ghost use Rattle.book_model.specs.Outcomes.{found_of, outcome_of};
+ghost use Rattle.book_model.specs.Outcomes.{found_of, linked_world, outcome_of};
+ghost use Rattle.implied_rules.specs.Implied.{AreImplied, AreStanding};
 ghost use Rattle.project_answers.specs.Holds.{Followed, all_linked};
 
 use element_store::{FileNo, Models, Outcome, RefNo, Segments};
+use implied_rules::ImpliedRows;
 use linker_base::NoMemory;
 use std::alloc::Global;
 
@@ -50,6 +52,12 @@ pub trait Linking: Drop {
         requires over { follows self.now ≡ all_linked models.now }
         requires stands { IsMember (keys_of models.now) (record { 0 = reference }) }
         ensures { IfOk result (λ outcome. outcome ≡ outcome_of models.now reference) };
+
+    /// The implied specialisations of the types of these files, over their least linking.
+    fn implied(&self, models: &Models) -> Result<ImpliedRows, NoMemory>
+        requires over { follows self.now ≡ all_linked models.now }
+        ensures rows { IfOk result (AreImplied models.now (linked_world models.now)) }
+        ensures live { IfOk result (AreStanding models.now) };
 
     /// What a qualified name finds from outside, as from a project file, over the least linking of these files.
     fn find(&self, models: &Models, path: Segments) -> Result<Outcome, NoMemory>

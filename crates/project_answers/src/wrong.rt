@@ -1,14 +1,14 @@
 ghost use Rattle.std.specs.Prelude.{◌≡◌, ◌<◌, ◌++◌, ◌∷◌, [], All as Each, IfOk, IfSome, codes, false, length, map};
 ghost use Rattle.book_model.specs.declared.rows.FaultRow.TheVariants.{File};
 ghost use Rattle.book_model.specs.Answers.{Command as Asked, references_in};
-ghost use Rattle.book_model.specs.Files.{AreFilesOf, name_at, stored};
+ghost use Rattle.book_model.specs.Files.{name_at, stored};
 ghost use Rattle.book_model.specs.Printed.{fault_row_text};
 ghost use Rattle.book_model.specs.Rows.{report_of};
 ghost use Rattle.project_answers.specs.Holds.{all_linked, holding_of};
 ghost use Rattle.project_answers.specs.Lines.{counts_with};
 ghost use Rattle.project_answers.specs.Parts.{IsPart, sum_of};
 ghost use Rattle.project_answers.specs.Wrong.{presents, wrong_count_at, wrong_lines_at, lines_at};
-ghost use Rattle.project_book.specs.Named.{book_of};
+ghost use Rattle.project_book.specs.Named.{IsOwn};
 ghost use Rattle.sysml_session.specs.Answered.{IsAnswered, across};
 
 use crate::lines::{Counts, counts_line, refusal_line};
@@ -52,9 +52,9 @@ fn with_file(counts: Counts, report: Option<FileReport>) -> Counts
     }
 }
 
-/// How many of these files are present, and how many references they have, with so many faults.
+/// How many of these files of the book are present, and how many references they have, with so many faults.
 fn counts(files: &ProjectFiles, numbers: &[FileNo], faults: usize) -> Counts
-    requires are { AreFilesOf (book_of files.now) [] files.now }
+    requires own { Each (IsOwn files.now) numbers.now }
     requires few { length numbers.now < 4294967296 }
     ensures files { result.files ≡ length (presents files.now numbers.now) }
     ensures references { result.references
@@ -92,7 +92,7 @@ fn give_refusal<K: Sink>(
     }
 }
 
-/// Gives what is wrong with a file, and says how many lines that are: the line of a file that is refused, the
+/// Gives what is wrong with a file of the book, and says how many lines that are: the line of a file that is refused, the
 /// rows of one that is read, or nothing where its text is gone.
 fn give_file<G: Linking, K: Sink>(
     alloc: Global,
@@ -101,7 +101,7 @@ fn give_file<G: Linking, K: Sink>(
     file: FileNo,
     output: &mut K,
 ) -> Result<usize, AnswerFault>
-    requires are { AreFilesOf (book_of files.now) [] files.now }
+    requires own { IsOwn files.now file }
     requires stands { file.0 < length files.now }
     requires over { G.follows linking.now ≡ all_linked (stored files.now) }
     ensures part { IsPart (across K.given K.faults output.old output.new)
@@ -121,7 +121,7 @@ fn give_file<G: Linking, K: Sink>(
     }
 }
 
-/// Gives what is wrong with files, and says how many lines that are.
+/// Gives what is wrong with files of the book, and says how many lines that are.
 fn give_files<G: Linking, K: Sink>(
     alloc: Global,
     files: &ProjectFiles,
@@ -129,7 +129,7 @@ fn give_files<G: Linking, K: Sink>(
     numbers: &[FileNo],
     output: &mut K,
 ) -> Result<usize, AnswerFault>
-    requires are { AreFilesOf (book_of files.now) [] files.now }
+    requires own { Each (IsOwn files.now) numbers.now }
     requires stand { Each (λ n. n.0 < length files.now) numbers.now }
     requires few { length numbers.now < 4294967296 }
     requires over { G.follows linking.now ≡ all_linked (stored files.now) }

@@ -10,45 +10,59 @@ use Rattle.element_store.specs.declared.numbers.FileNo.{FileNo}
 use Rattle.book_model.specs.declared.edit.Edit.{Edit}
 use Rattle.book_model.specs.declared.edit.Edit.TheVariants.{Put, Drop}
 use Rattle.book_model.specs.Book.{Book, Edited, edited, dropped, text_in, with_entry, put_in, bytes_in}
-use Rattle.book_model.specs.Files.{Content, ProjectFile, content_under, number_under, with_content}
+use Rattle.book_model.specs.Files.{Content, ProjectFile, content_under, is_under, number_under, with_content}
 use Rattle.book_model.specs.Proper.{IsWithin}
 use Rattle.book_model.proofs.FileLaws.{texts_found}
 use Rattle.book_model.proofs.EditLaws.{edit_within}
 use Rattle.project_files.specs.Kept.{content_at}
-use Rattle.project_book.specs.Named.{text_in_content, book_of, AreReadFrom, AreRead, IsNumberUnder, IsKeptUnder}
+use Rattle.project_book.specs.Named.{text_in_content, book_of, library_in, AreReadFrom, AreRead, IsNumberUnder, IsKeptUnder}
 use Rattle.project_book.specs.Held.{IsSized}
-use Rattle.project_book.proofs.NamedLaws.{under_is, book_with, book_long, files_of_book, content_found}
+use Rattle.project_book.proofs.NamedLaws.{under_is, under_none, number_here, number_far, book_fixed, book_own, book_with, library_with, files_of_book, content_found}
 
 -- ---- how many names and bytes
 
+up : (n : ℕ) → suc (n + 1) ≡ suc n + 1
+up n = omega arith
+
 -- a text under a name that is there makes the book no longer, and under a new one by one name
-names_put : (n : ℕ) (files : List ProjectFile) (name text : List ℕ) → AreReadFrom n files
-    → (number_under files name < length files → length (put_in (book_of files) name text) ≡ length files)
-    × (number_under files name ≡ length files → length (put_in (book_of files) name text) ≡ length files + 1)
-names_put n [] name text h = (λ below. absurd (omega (arith, below)), λ new. refl)
-names_put n (f ∷ fs) name text h = elim (bool_cases (pointwise nat_eq name f.name)) [
-  | inl here ↦
-      let under : number_under (f ∷ fs) name ≡ 0 = ap (λ b. cond b 0 (suc (number_under fs name))) (under_is name f h.0.own ∙ here) in
-      let whole : put_in (book_of (f ∷ fs)) name text ≡ (f.name, Some text) ∷ book_of fs =
-      ap (λ b. cond b ((f.name, Some text) ∷ book_of fs) ((f.name, text_in_content f.content) ∷ put_in (book_of fs) name text)) here in
-      (λ below. ap length whole ∙ ap suc (book_long fs), λ new. absurd (omega (arith, under, new)))
-  | inr far ↦
-      let under : number_under (f ∷ fs) name ≡ suc (number_under fs name) =
-      ap (λ b. cond b 0 (suc (number_under fs name))) (under_is name f h.0.own ∙ far) in
-      let whole : put_in (book_of (f ∷ fs)) name text ≡ (f.name, text_in_content f.content) ∷ put_in (book_of fs) name text =
-      ap (λ b. cond b ((f.name, Some text) ∷ book_of fs) ((f.name, text_in_content f.content) ∷ put_in (book_of fs) name text)) far in
-      let long = ap length whole in
-      let more = names_put (suc n) fs name text h.1 in
-      (λ below. omega (arith, long, more.0 (omega (arith, under, below))), λ new. omega (arith, long, more.1 (omega (arith, under, new))))
-]
+names_put : (files : List ProjectFile) (name text : List ℕ)
+    → (number_under files name < length files → length (put_in (book_of files) name text) ≡ length (book_of files))
+    × (number_under files name ≡ length files → length (put_in (book_of files) name text) ≡ length (book_of files) + 1)
+names_put [] name text = (λ below. absurd (omega (arith, below)), λ new. refl)
+names_put (f ∷ fs) name text = elim (bool_cases f.library) [
+  | inl fixed ↦
+      let under = number_far name f fs (under_none name f fixed) in
+      let more = names_put fs name text in
+      let book = book_fixed f fs fixed in
+      subst (λ book. (number_under (f ∷ fs) name < length (f ∷ fs) → length (put_in book name text) ≡ length book)
+      × (number_under (f ∷ fs) name ≡ length (f ∷ fs) → length (put_in book name text) ≡ length book + 1)) (sym book)
+      (λ below. more.0 (omega (arith, under, below)), λ new. more.1 (omega (arith, under, new)))
+  | inr own ↦
+      subst (λ book. (number_under (f ∷ fs) name < length (f ∷ fs) → length (put_in book name text) ≡ length book)
+      × (number_under (f ∷ fs) name ≡ length (f ∷ fs) → length (put_in book name text) ≡ length book + 1)) (sym (book_own f fs own))
+      (by (pointwise nat_eq name f.name) (under_is name f own) (names_put fs name text))
+] where
+  by : (b : Bool) → is_under name f ≡ b
+      → (number_under fs name < length fs → length (put_in (book_of fs) name text) ≡ length (book_of fs))
+      × (number_under fs name ≡ length fs → length (put_in (book_of fs) name text) ≡ length (book_of fs) + 1)
+      → (number_under (f ∷ fs) name < length (f ∷ fs)
+      → length (cond b ((f.name, Some text) ∷ book_of fs) ((f.name, text_in_content f.content) ∷ put_in (book_of fs) name text)) ≡ suc (length (book_of fs)))
+      × (number_under (f ∷ fs) name ≡ length (f ∷ fs)
+      → length (cond b ((f.name, Some text) ∷ book_of fs) ((f.name, text_in_content f.content) ∷ put_in (book_of fs) name text))
+      ≡ suc (length (book_of fs)) + 1)
+  by true is more = (λ below. refl, λ new. absurd (omega (arith, number_here name f fs is, new)))
+  by false is more = (
+    λ below. ap suc (more.0 (omega (arith, number_far name f fs is, below))),
+    λ new. ap suc (more.1 (omega (arith, number_far name f fs is, new))) ∙ up (length (book_of fs)),
+  )
 
-pub names_old : (files : List ProjectFile) (name text : List ℕ) → AreRead files → number_under files name < length files
-    → length (put_in (book_of files) name text) ≡ length files
-names_old files name text h below = (names_put 0 files name text h).0 below
+pub names_old : (files : List ProjectFile) (name text : List ℕ) → number_under files name < length files
+    → length (put_in (book_of files) name text) ≡ length (book_of files)
+names_old files name text below = (names_put files name text).0 below
 
-pub names_new : (files : List ProjectFile) (name text : List ℕ) → AreRead files → number_under files name ≡ length files
-    → length (put_in (book_of files) name text) ≡ length files + 1
-names_new files name text h new = (names_put 0 files name text h).1 new
+pub names_new : (files : List ProjectFile) (name text : List ℕ) → number_under files name ≡ length files
+    → length (put_in (book_of files) name text) ≡ length (book_of files) + 1
+names_new files name text new = (names_put files name text).1 new
 
 -- how many bytes stand under the name
 abbrev pub held_in : Book → List ℕ → ℕ
@@ -94,7 +108,7 @@ bytes_full book name text a b c = grind (arith, nat_tests)
 pub text_there : (files : List ProjectFile) (name : List ℕ) (file : FileNo) → AreRead files → number_under files name ≡ file.0
     → text_in (book_of files) name ≡ text_in_content (content_at files file)
 text_there files name file h is =
-    sym (texts_found (book_of files) [] files name (files_of_book 0 files h))
+    sym (texts_found (book_of files) (library_in files) files name (files_of_book 0 files h))
     ∙ (ap text_in_content (content_found files name) ∙ ap (λ k. text_in_content (content_at files (record { 0 = k }))) is)
 
 -- no file stands behind the last
@@ -111,11 +125,11 @@ text_nowhere files name h new =
 -- ---- what an edit leaves
 
 -- a put that has room does what it should
-pub put_done : (before after : List ProjectFile) (name text : List ℕ) (file : FileNo) → AreRead before → IsKeptUnder before after name text file
+pub put_done : (before after : List ProjectFile) (name text : List ℕ) (file : FileNo) → IsKeptUnder before after name text file
     → edited (book_of before) (Put name text) ≡ Edited.Changed (put_in (book_of before) name text)
     → edited (book_of before) (Put name text) ≡ Edited.Changed (book_of after)
-put_done before after name text file h k is =
-    let changed = book_with 0 before name (Some k.content) h ∙ ap (λ t. with_entry (book_of before) name (Some t)) k.text_is in
+put_done before after name text file k is =
+    let changed = book_with before name (Some k.content) ∙ ap (λ t. with_entry (book_of before) name (Some t)) k.text_is in
     is ∙ ap Edited.Changed (sym (ap book_of k.files ∙ changed))
 
 -- changed books are the same
@@ -124,28 +138,33 @@ changed_same a b e = cc
 
 -- and leaves a book within its limits
 pub put_sized : (before after : List ProjectFile) (bytes size : ℕ) (name text : List ℕ) → IsSized before bytes
-    → edited (book_of before) (Put name text) ≡ Edited.Changed (put_in (book_of before) name text)
+    → library_in after ≡ library_in before → edited (book_of before) (Put name text) ≡ Edited.Changed (put_in (book_of before) name text)
     → edited (book_of before) (Put name text) ≡ Edited.Changed (book_of after)
     → size ≡ bytes_in (put_in (book_of before) name text) → IsSized after size
-put_sized before after bytes size name text h is done same =
+put_sized before after bytes size name text h fixed is done same =
     let book : put_in (book_of before) name text ≡ book_of after = changed_same _ _ (sym is ∙ done) in
-    record { bytes_are = same ∙ ap bytes_in book; within = edit_within (book_of before) (Put name text) (book_of after) h.within done }
+    record {
+      bytes_are = same ∙ ap bytes_in book;
+      within = edit_within (book_of before) (Put name text) (book_of after) h.within done;
+      few = omega (arith, h.few, ap length fixed);
+    }
 
 -- a drop that finds a text does what it should
-pub drop_done : (before after : List ProjectFile) (name text : List ℕ) → AreRead before → text_in (book_of before) name ≡ Some text
+pub drop_done : (before after : List ProjectFile) (name text : List ℕ) → text_in (book_of before) name ≡ Some text
     → after ≡ with_content before name None → edited (book_of before) (Drop name) ≡ Edited.Changed (book_of after)
-drop_done before after name text h at is =
-    ap (dropped (book_of before) name) at ∙ ap Edited.Changed (sym (ap book_of is ∙ book_with 0 before name None h))
+drop_done before after name text at is =
+    ap (dropped (book_of before) name) at ∙ ap Edited.Changed (sym (ap book_of is ∙ book_with before name None))
 
 -- and leaves the bytes without its own
-pub drop_sized : (before after : List ProjectFile) (bytes size : ℕ) (name text : List ℕ) → AreRead before → IsSized before bytes
+pub drop_sized : (before after : List ProjectFile) (bytes size : ℕ) (name text : List ℕ) → IsSized before bytes
     → text_in (book_of before) name ≡ Some text → size + length text ≡ bytes → after ≡ with_content before name None → IsSized after size
-drop_sized before after bytes size name text h sized at same is =
-    let book : book_of after ≡ with_entry (book_of before) name None = ap book_of is ∙ book_with 0 before name None h in
+drop_sized before after bytes size name text sized at same is =
+    let book : book_of after ≡ with_entry (book_of before) name None = ap book_of is ∙ book_with before name None in
     let less = bytes_put (book_of before) name None in
     let held : held_in (book_of before) name ≡ length text = ap (λ o. option_map_or length o 0) at in record {
       bytes_are = omega (arith, same, less, held, sized.bytes_are, ap bytes_in book);
-      within = edit_within (book_of before) (Drop name) (book_of after) sized.within (drop_done before after name text h at is);
+      within = edit_within (book_of before) (Drop name) (book_of after) sized.within (drop_done before after name text at is);
+      few = omega (arith, sized.few, ap length (ap library_in is ∙ library_with before name None));
     }
 
 -- the bytes that a text under a name has are among all

@@ -1,3 +1,4 @@
 pub mod NamedLaws
 pub mod ReadLaws
 pub mod HeldLaws
+pub mod LibraryLaws

@@ -1,22 +1,26 @@
-ghost use Rattle.std.specs.Prelude.{◌≡◌, ◌<◌, ◌≤◌, ℕ, List, [], None, Some, IfNone, IfOk, IfSome, OnErr, OnOk, length};
+ghost use Rattle.std.specs.Prelude.{◌≡◌, ◌<◌, ◌≤◌, ◌∷◌, ◌++◌, ℕ, List, [], None, Some, IfNone, IfOk, IfSome, OnErr, OnOk};
+ghost use Rattle.std.specs.Prelude.{false, length, map};
 ghost use Rattle.std.specs.Option.{option_map};
+ghost use Rattle.linker_base.specs.Members.{IsMember};
 ghost use Rattle.linker_base.specs.declared.limits.TheConstants.{FILE_BYTES};
+ghost use Rattle.element_store.specs.FileNames.{is_file_name};
 ghost use Rattle.book_model.specs.Book.{put_in, text_in};
 ghost use Rattle.book_model.specs.Files.{name_at, number_under, with_content};
 ghost use Rattle.book_model.specs.Readings.{language_of};
 ghost use Rattle.project_files.specs.Kept.{content_of, with_content_at};
-ghost use Rattle.project_book.specs.Named.{AreRead, IsKeptUnder, IsNumberUnder, IsReadAs, book_of, with_name};
+ghost use Rattle.project_book.specs.Named.{AreRead, IsKeptUnder, IsNumberUnder, IsOwn, IsReadAs, book_of, library_in, with_name};
 
 use crate::reading::{ReadText, read};
 use element_store::{FileName, FileNo, Language, Text};
 use indexmap::IndexMap;
+use library_texts::LibraryFile;
 use linker_base::NoMemory;
 use project_files::{Kept, ProjectFiles};
 use std::alloc::Global;
 use std::marker::Model;
 
-/// The files of a book, with their numbers by their names. Contracts see the files, each of which is read
-/// from its text.
+/// The files of a library and of a book over it, with the numbers of the book's by their names. Contracts see
+/// the files, each of which is read from its text; those of the library stand first.
 #[derive(Drop)]
 pub(crate) struct NamedFiles {
     files: ProjectFiles,
@@ -40,6 +44,36 @@ fn language_of(name: &FileName) -> Language
     ensures { result ≡ language_of name.now }
 {
     name.language()
+}
+
+/// The language in which a file of the library is written.
+fn language_of_library(name: &str) -> Language
+    ensures { result ≡ language_of name.now }
+{
+    if name.as_bytes().ends_with(b".sysml") {
+        Language::Sysml
+    } else {
+        Language::Kerml
+    }
+}
+
+/// A text of these bytes.
+fn copied(alloc: Global, bytes: &[u8]) -> Result<Text, NoMemory>
+    ensures { IfOk result (λ text. text ≡ bytes.now) }
+{
+    Ok(Text::of(Vec::from_slice(alloc, bytes)?))
+}
+
+/// Reads the text of a file of the library.
+fn read_library(alloc: Global, number: FileNo, file: &LibraryFile) -> Result<ReadText, NoMemory>
+    requires { length file.now.text.now ≤ FILE_BYTES }
+    ensures as_read { IfOk result (λ read. IsReadAs number (language_of file.now.name.now)
+        read.text read.fault read.model) }
+    ensures text { IfOk result (λ read. read.text ≡ file.now.text.now) }
+{
+    let language = language_of_library(file.name);
+    let text = copied(alloc, file.text)?;
+    read(alloc, number, text, language)
 }
 
 impl NamedFiles {
@@ -75,11 +109,11 @@ impl NamedFiles {
         self.files.count()
     }
 
-    /// How many files there are with one under this name.
+    /// How many names the book has with this one.
     pub fn count_with(&self, name: &FileName) -> usize
         ensures { (text : List ℕ) → result ≡ length (put_in (book_of self.now) name.now text) }
     {
-        let count = self.files.count() as usize;
+        let count = self.numbers.len();
         match self.number(name) {
             Some(_) => count,
             None => count + 1,
@@ -135,9 +169,48 @@ impl NamedFiles {
         }
     }
 
-    /// Keeps a text under a file, with what it is read as.
+    /// Adds a file of the library with what its text is read as. The book has no files yet. After `NoMemory` the
+    /// files are as they were.
+    fn add_read(&mut self, name: Text, number: FileNo, read: ReadText) -> Result<(), NoMemory>
+        requires alone { book_of self.old ≡ [] }
+        requires apart { is_file_name name ≡ false }
+        requires fresh { IsMember (map (λ e. e.0) (library_in self.old)) name → ⊥ }
+        requires place { number.0 ≡ length self.old }
+        requires as_read { IsReadAs number (language_of name) read.text read.fault read.model }
+        requires room { length self.old < 4294967295 }
+        ensures added { OnOk result (library_in self.new
+            ≡ library_in self.old ++ (name, read.text) ∷ []) }
+        ensures alone { book_of self.new ≡ [] }
+        ensures err { OnErr result (self.new ≡ self.old) }
+    {
+        self.files.add(name, true)?;
+        let ReadText { text, fault, model } = read;
+        self.files.put(number, Kept { text, fault }, model);
+        Ok(())
+    }
+
+    /// Adds a file of the library. The book has no files yet. After `NoMemory` the files are as they were.
+    pub fn add_library(&mut self, alloc: Global, file: &LibraryFile) -> Result<(), NoMemory>
+        requires alone { book_of self.old ≡ [] }
+        requires apart { is_file_name file.now.name.now ≡ false }
+        requires fresh { IsMember (map (λ e. e.0) (library_in self.old)) file.now.name.now → ⊥ }
+        requires short { length file.now.text.now ≤ FILE_BYTES }
+        requires room { length self.old < 4294967295 }
+        ensures added { OnOk result (library_in self.new
+            ≡ library_in self.old ++ (file.now.name.now, file.now.text.now) ∷ []) }
+        ensures alone { book_of self.new ≡ [] }
+        ensures err { OnErr result (self.new ≡ self.old) }
+    {
+        let number = FileNo(self.count());
+        let read = read_library(alloc, number, file)?;
+        let name = copied(alloc, file.name.as_bytes())?;
+        self.add_read(name, number, read)
+    }
+
+    /// Keeps a text under a file of the book, with what it is read as.
     fn set(&mut self, file: FileNo, read: ReadText)
         requires stands { file.0 < length self.old }
+        requires own { IsOwn self.old file }
         requires as_read { let language = language_of (name_at self.old file) in
             IsReadAs file language read.text read.fault read.model }
         ensures { self.new ≡ with_content_at self.old file.0 (content_of (Some read.model)

@@ -1,21 +1,23 @@
-ghost use Rattle.std.specs.Prelude.{◌≡◌, [], Some, false};
+ghost use Rattle.std.specs.Prelude.{◌≡◌, Some, IfOk, false};
 ghost use Rattle.book_model.specs.declared.edit.Edit.TheVariants.{Drop as Dropped};
-ghost use Rattle.book_model.specs.Files.{AreFilesOf};
-ghost use Rattle.project_book.specs.Held.{IsApplied, IsPut, IsRoomFor};
-ghost use Rattle.project_book.specs.Named.{HaveMoved, IsNumberUnder, book_of};
+ghost use Rattle.book_model.specs.Proper.{IsProperLibrary};
+ghost use Rattle.project_book.specs.Held.{IsApplied, IsOpened, IsPut, IsRoomFor, texts_of};
+ghost use Rattle.project_book.specs.Named.{AreOfBook, HaveMoved, IsNumberUnder, book_of};
 
 use crate::faults::{Applied, ApplyFault};
 use crate::named::NamedFiles;
 use book_model::Edit;
 use demand_core::{Ledger, Steps};
 use element_store::{FileName, FileNo, Text};
+use library_texts::LibraryFile;
+use linker_base::NoMemory;
 use linker_base::limits::{BOOK_BYTES, FILE_BYTES, NAMES};
 use project_files::ProjectFiles;
 use std::alloc::Global;
 use std::marker::Model;
 
-/// A project without a library: a book of files, each read to its model or its fault. Contracts see the
-/// files and the mark of a project that want of memory broke.
+/// A project: a book of files over a library, each read to its model or its fault. Contracts see the files,
+/// those of the library first, and the mark of a project that want of memory broke.
 #[derive(Drop)]
 pub struct Project {
     alloc: Global,
@@ -36,22 +38,27 @@ impl Model for Project {
 }
 
 impl Project {
-    /// An empty book, which takes no memory.
-    pub fn new(alloc: Global) -> Project
-        ensures { result ≡ record { files = []; broken = false } }
+    /// An empty book over a library. A text of the library that isn't in the profile has no elements.
+    pub fn open(alloc: Global, library: &[LibraryFile]) -> Result<Project, NoMemory>
+        requires { IsProperLibrary (texts_of library.now) }
+        ensures { IfOk result (IsOpened library.now) }
     {
-        Project {
+        let mut named = NamedFiles::new(alloc);
+        for file in library {
+            named.add_library(alloc, file)?;
+        }
+        Ok(Project {
             alloc,
-            named: NamedFiles::new(alloc),
+            named,
             bytes: 0,
             broken: false,
-        }
+        })
     }
 
-    /// Lends the files of the book.
+    /// Lends the files of the library and of the book.
     pub fn files(&self) -> &ProjectFiles
         ensures lent { result.now ≡ self.now.files }
-        ensures are { AreFilesOf (book_of self.now.files) [] self.now.files }
+        ensures are { AreOfBook self.now.files }
     {
         self.named.files()
     }

@@ -59,7 +59,9 @@ fn edits_change_one_file_each(rt: HostRuntime) {
         (b"a.sysml", Some(b"part p;"), Applied::Changed, part),
         (b"b.sysml", Some(b"part p : ;"), Applied::Changed, fault),
     ];
-    let mut project = Project::new(rt.alloc());
+    let Ok(mut project) = Project::open(rt.alloc(), &[]) else {
+        panic!(rt; "no memory");
+    };
     for (name, text, applied, told) in edits {
         assert!(rt; edit(rt.alloc(), &mut project, name, text) == Some(Ok(applied)));
         assert!(rt; report(rt.alloc(), &project, name) == told);

@@ -7,6 +7,7 @@ mod project;
 mod tests;
 
 pub use book_model::{Edit, FaultRow, FaultRows, FileReport, LinkRow, LinkRows, Place};
+pub use implied_rules::{ImpliedRow, ImpliedRows};
 pub use linked_project::{FileNames, QueryFault};
 pub use project::Project;
 pub use project_book::{Applied, ApplyFault};

@@ -1,17 +1,19 @@
-ghost use Rattle.std.specs.Prelude.{◌≡◌, ◌<◌, ◌^◌, [], All as Each, IfOk, Some, length};
+ghost use Rattle.std.specs.Prelude.{◌≡◌, ◌<◌, ◌^◌, All as Each, IfOk, Some, length};
 ghost use Rattle.book_model.specs.Files.{name_at};
 ghost use Rattle.book_model.specs.Live.{IsLiveElement, IsLiveMember, IsLiveReference, NamesLive};
 ghost use Rattle.book_model.specs.Queries.{faults_query, file_query, label, links_query, member_place};
 ghost use Rattle.book_model.specs.Queries.{names_query, reference_place, text_of_reference};
-ghost use Rattle.project_book.specs.Held.{IsApplied};
-ghost use Rattle.linked_project.specs.Answered.{HasItsFiles, IsAnswered, IsFound, IsSpelt, IsTold};
+ghost use Rattle.book_model.specs.Proper.{IsProperLibrary};
+ghost use Rattle.project_book.specs.Held.{IsApplied, IsOpened, texts_of};
+ghost use Rattle.project_answers.specs.ImpliedLines.{IsLiveImplied};
+ghost use Rattle.linked_project.specs.Answered.{HasItsFiles, IsAnswered, IsFound, IsImplied, IsSpelt, IsTold};
 ghost use Rattle.linked_project.specs.Listed.{IsLiveFault, IsLiveRow};
-ghost use Rattle.project_core.specs.Opened.{IsOpened};
 
 use book_links::BookLinks;
 use book_model::{Edit, FaultRows, FileReport, LinkRows, Place};
 use demand_core::{Ledger, Steps};
 use element_store::{ElementNo, FileName, FileNo, MemberNo, Outcome, RefNo, Text};
+use implied_rules::ImpliedRows;
 use library_texts::LibraryFile;
 use linked_project::{FileNames, LinkedProject, QueryFault};
 use linker_base::NoMemory;
@@ -36,21 +38,21 @@ impl Model for Project {
 }
 
 impl Project {
-    /// An empty book over a library, whose files stand first in the numbers of files. So far the library is
-    /// empty. `NoMemory` leaves nothing.
+    /// An empty book over a library, whose files stand first in the numbers of files; its references are linked.
+    /// A library text that isn't in the profile has no elements. The library has at most 64 files, each of at
+    /// most 1,048,576 bytes, with distinct names that no file of the book can have. `NoMemory` leaves nothing.
     pub fn open<L: Ledger>(
         alloc: Global,
         library: &[LibraryFile],
         steps: &mut Steps<L>,
     ) -> Result<Project, NoMemory>
-        requires { library.now ≡ [] }
+        requires { IsProperLibrary (texts_of library.now) }
         ensures opened { IfOk result (IsOpened library.now) }
         ensures files { IfOk result HasItsFiles }
         ensures steps { steps.new ≡ steps.old }
     {
-        let _ = library;
         let _ = &*steps;
-        let linked = LinkedProject::new(alloc)?;
+        let linked = LinkedProject::open(alloc, library)?;
         Ok(Project { linked })
     }
 
@@ -156,6 +158,16 @@ impl Project {
             (Some (reference_place self.now.files reference)) result }
     {
         self.linked.reference_place(reference)
+    }
+
+    /// The types of the present files that specialise the base of their kind by implication (KerML 8.4.2), or an
+    /// enumerated value the enumeration that owns it, where no chain of explicit generals leads there: in byte
+    /// order of the names of files, and then in the order of elements, each with the member that owns it.
+    pub fn implied(&self) -> Result<ImpliedRows, QueryFault>
+        ensures implied { IsImplied self.now result }
+        ensures live { IfOk result (Each (IsLiveImplied self.now.files)) }
+    {
+        self.linked.implied()
     }
 
     /// What becomes of a qualified name that is asked for from outside, over the least linking; it may hang on

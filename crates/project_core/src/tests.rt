@@ -1,17 +1,22 @@
 //! A book in both languages through every query, before a drop and after it, with each refusal.
 
 ghost use Rattle.linked_project.specs.Listed.{IsLiveRow};
+ghost use Rattle.project_answers.specs.ImpliedLines.{IsLiveImplied};
 
-use crate::{Applied, ApplyFault, Edit, FaultRow, FileReport, LinkRow, Place, Project, QueryFault};
+use crate::{
+    Applied, ApplyFault, Edit, FaultRow, FileReport, ImpliedRow, LinkRow, Place, Project,
+    QueryFault,
+};
 use demand_core::{Counted, Steps};
 use element_store::{FileName, Outcome, Text};
+use library_texts::library;
 use std::alloc::Global;
 use text_model::FileFault;
 
-/// A project without files.
+/// A project without files of its own, over the library.
 fn opened(alloc: Global) -> Option<Project> {
     let mut steps = Steps::new(Counted::new());
-    Project::open(alloc, &[], &mut steps).ok()
+    Project::open(alloc, library(), &mut steps).ok()
 }
 
 /// The name of a file.
@@ -332,4 +337,55 @@ fn refusals_leave_the_book(rt: HostRuntime) {
     assert!(rt; project.find(b"P::").err() == Some(QueryFault::BadName));
     assert!(rt; is_text(project.spell_words(b"P :: 'A' in $::P"), b"P::A in $::P"));
     assert!(rt; project.spell_words(b"A in").err() == Some(QueryFault::BadName));
+}
+
+/// Whether a row says that the type with this label has that base, by a member in this column.
+fn is_implied(project: &Project, row: &ImpliedRow, expected: (u32, &[u8], &[u8])) -> bool
+    requires { IsLiveImplied project.now.files row.now }
+{
+    let (column, of, base) = expected;
+    project.member_place(row.member) == Ok(Place { line: 1, column })
+        && is_text(project.label(row.of), of)
+        && is_text(project.label(row.base), base)
+}
+
+/// Whether these are the implied specialisations.
+fn are_implied(project: &Project, expected: &[(u32, &[u8], &[u8])]) -> bool {
+    let Ok(rows) = project.implied() else {
+        return false;
+    };
+    for (index, row) in rows.as_slice().iter().enumerate() {
+        match expected.get(index) {
+            Some(expected) if is_implied(project, row, *expected) => {}
+            _ => return false,
+        }
+    }
+    rows.as_slice().len() == expected.len()
+}
+
+/// The library stands behind the book: a type specialises its base by implication, unless it does by its own
+/// words, and a name of the book hides the library's.
+#[test]
+fn the_library_stands_behind_the_book(rt: HostRuntime) {
+    let Some(mut project) = opened(rt.alloc()) else {
+        panic!(rt; "no memory");
+    };
+    assert!(rt; finds(&project, b"Parts::Part", Some(b"Parts::Part")));
+    assert!(rt; are_implied(&project, &[]));
+    let text = b"part def A; attribute n : ScalarValues::Integer;";
+    let done = put(rt.alloc(), &mut project, b"a.sysml", text);
+    assert!(rt; done == Some(Ok(Applied::Changed)));
+    let expected: [(u32, &[u8], &[u8]); 2] = [
+        (1, b"A", b"Parts::Part"),
+        (13, b"n", b"Base::dataValues"),
+    ];
+    assert!(rt; are_implied(&project, &expected));
+    let done = put(
+        rt.alloc(),
+        &mut project,
+        b"b.sysml",
+        b"package Parts { item def Other; }",
+    );
+    assert!(rt; done == Some(Ok(Applied::Changed)));
+    assert!(rt; finds(&project, b"Parts::Part", None));
 }

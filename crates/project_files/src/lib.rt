@@ -9,4 +9,4 @@ mod outcomes;
 mod tests;
 
 pub use files::{Kept, ProjectFiles};
-pub use outcomes::{write_outcome, write_place, write_row};
+pub use outcomes::{write_implication, write_outcome, write_place, write_row};

@@ -1,7 +1,7 @@
 ghost use Rattle.std.specs.Prelude.{◌≡◌, ◌<◌, ◌++◌, OnOk, length};
 ghost use Rattle.book_model.specs.Live.{IsLiveElement, IsLiveMember, IsLiveReference, NamesLive};
-ghost use Rattle.book_model.specs.Printed.{element_text, outcome_text, place_text, role_text, row_text, spot_text};
-ghost use Rattle.book_model.specs.Queries.{member_place, reference_place, text_of_reference};
+ghost use Rattle.book_model.specs.Printed.{element_text, implication_text, outcome_text, place_text, role_text, row_text, spot_text};
+ghost use Rattle.book_model.specs.Queries.{label, member_place, reference_place, text_of_reference};
 
 use crate::files::ProjectFiles;
 use book_model::{LinkRow, Place};
@@ -78,6 +78,41 @@ fn write_member(
         ≡ answer.old.items ++ spot_text files.now member.file (member_place files.now member)) }
 {
     write_spot(answer, files, member.file, files.member_place(member))
+}
+
+/// Appends the label of an element.
+fn write_type(
+    alloc: Global,
+    answer: &mut Vec<u8>,
+    files: &ProjectFiles,
+    element: ElementNo,
+) -> Result<(), NoMemory>
+    requires { IsLiveElement files.now element }
+    ensures { OnOk result (answer.new.items ≡ answer.old.items ++ label files.now element) }
+{
+    write_label(alloc, answer, files.model(element.file), element.index)
+}
+
+/// Appends an implied specialisation: the place of the member that owns the type, the type, and its base.
+pub fn write_implication(
+    alloc: Global,
+    answer: &mut Vec<u8>,
+    files: &ProjectFiles,
+    of: ElementNo,
+    member: MemberNo,
+    base: ElementNo,
+) -> Result<(), NoMemory>
+    requires of { IsLiveElement files.now of }
+    requires member { IsLiveMember files.now member }
+    requires base { IsLiveElement files.now base }
+    ensures { OnOk result (answer.new.items ≡ answer.old.items
+        ++ implication_text files.now (record { of = of; member = member; base = base })) }
+{
+    write_member(answer, files, member)?;
+    write(answer, b" ")?;
+    write_type(alloc, answer, files, of)?;
+    write(answer, b" -> ")?;
+    write_element(alloc, answer, files, base)
 }
 
 /// Appends what became of a reference: where it leads, or the segment that is refused and why, or the

@@ -17,6 +17,8 @@ pub enum Command {
     Check,
     /// Find the qualified name that these words are, if they are one.
     Find { words: Text },
+    /// List the implied specialisations of all files.
+    Implied,
     /// End the session.
     End,
 }

@@ -20,6 +20,7 @@ pub(crate) enum Heading {
     Links { name: FileName },
     Check,
     Find { words: Text },
+    Implied,
     End,
 }
 
@@ -120,6 +121,9 @@ pub(crate) fn read_heading(alloc: Global, line: &[u8]) -> Result<Heading, ReadSt
     }
     if line == b"check".as_slice() {
         return Ok(Heading::Check);
+    }
+    if line == b"implied".as_slice() {
+        return Ok(Heading::Implied);
     }
     if let Some(name) = line.strip_prefix(b"drop ") {
         return read_drop(alloc, name);

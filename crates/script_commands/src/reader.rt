@@ -77,6 +77,7 @@ impl ScriptReader {
             Ok(Heading::Links { name }) => Ok(Command::Links { name }),
             Ok(Heading::Check) => Ok(Command::Check),
             Ok(Heading::Find { words }) => Ok(Command::Find { words }),
+            Ok(Heading::Implied) => Ok(Command::Implied),
             Ok(Heading::End) => Ok(Command::End),
             Err(ReadStop::CutShort) => self.read_bare_end(),
             Err(stop) => Err(stop),

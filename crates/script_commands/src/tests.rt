@@ -28,6 +28,7 @@ fn is_command(command: &Command, (word, name, text): (&[u8], &[u8], &[u8])) -> b
         Command::Links { name: listed } => word == b"links".as_slice() && listed.bytes() == name,
         Command::Check => word == b"check".as_slice(),
         Command::Find { words } => word == b"find".as_slice() && words.bytes() == text,
+        Command::Implied => word == b"implied".as_slice(),
         Command::End => word == b"end".as_slice(),
     }
 }
@@ -36,7 +37,7 @@ fn is_command(command: &Command, (word, name, text): (&[u8], &[u8], &[u8])) -> b
 #[test]
 fn each_command_is_read_in_pieces_of_any_size(rt: HostRuntime) -> Result<(), Fail> {
     let script =
-        b"put a.sysml 10\npackage P;\nput b.kerml 0\n\ndrop a.sysml\nlinks b.kerml\ncheck\nfind a::b \r\nend\nmore";
+        b"put a.sysml 10\npackage P;\nput b.kerml 0\n\ndrop a.sysml\nlinks b.kerml\ncheck\nfind a::b \r\nimplied\nend\nmore";
     let commands = [
         (
             b"put".as_slice(),
@@ -49,7 +50,8 @@ fn each_command_is_read_in_pieces_of_any_size(rt: HostRuntime) -> Result<(), Fai
         (b"links", b"b.kerml", b"", 68),
         (b"check", b"", b"", 74),
         (b"find", b"", b"a::b \r", 86),
-        (b"end", b"", b"", 90),
+        (b"implied", b"", b"", 94),
+        (b"end", b"", b"", 98),
     ];
     for size in SIZES {
         let mut input = source(rt.alloc(), script, size, &[])?;

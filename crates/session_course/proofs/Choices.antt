@@ -191,10 +191,11 @@ put_says words = elim (part_at 32 words) [
   | inr none ↦ inr (put_none words (λ name text form e. none (put_spaced words name text e)))
 ]
 
--- the line isn't `end` or `check`, and begins with no word of another command
+-- the line isn't that of a command of one word, and begins with no word of another command
 pub record IsOther (line : List ℕ) : Type 0 where
   pub no_end : bytes_eq line (codes "end") ≡ false
   pub no_check : bytes_eq line (codes "check") ≡ false
+  pub no_implied : bytes_eq line (codes "implied") ≡ false
   pub no_drop : bytes_eq (take 5 line) (codes "drop ") ≡ false
   pub no_links : bytes_eq (take 6 line) (codes "links ") ≡ false
   pub no_find : bytes_eq (take 5 line) (codes "find ") ≡ false
@@ -212,30 +213,50 @@ other_none line o (Command.Do (Asked.Drop name)) form e = prefix_lacks line (cod
 other_none line o (Command.Do (Asked.Links name)) form e = prefix_lacks line (codes "links ") name o.no_links e
 other_none line o (Command.Do Asked.Check) form e = not_bare line (codes "check") o.no_check e
 other_none line o (Command.Do (Asked.Find words)) form e = prefix_lacks line (codes "find ") words o.no_find e
+other_none line o (Command.Do Asked.Implied) form e = not_bare line (codes "implied") o.no_implied e
 other_none line o Command.End form e = not_bare line (codes "end") o.no_end e
+
+-- a line of one word is that of a command, or another one
+bare_says : (line bare : List ℕ) (c : Command) → HasForm c → line_of c ≡ bare → Says line ⊎ (bytes_eq line bare ≡ false)
+bare_says line bare c form is = elim (bool_cases (bytes_eq line bare)) [
+  | inl e ↦ inl (record { command = c; form = form; stands = is ∙ sym ((bytes_eq-Decides line bare).0 e) })
+  | inr other ↦ inr other
+]
+
+-- a line that begins so is that of a command or of none, or another one
+prefix_says : (line prefix : List ℕ) → ((rest : List ℕ) → Says (prefix ++ rest) ⊎ SaysNothing (prefix ++ rest))
+    → (Says line ⊎ SaysNothing line) ⊎ (bytes_eq (take (length prefix) line) prefix ≡ false)
+prefix_says line prefix says = elim (bool_cases (bytes_eq (take (length prefix) line) prefix)) [
+  | inl p ↦ inl (subst (λ l. Says l ⊎ SaysNothing l) (prefix_stands line prefix p) (says (drop (length prefix) line)))
+  | inr other ↦ inr other
+]
 
 -- each line is that of a command, or of none
 pub says_of : (line : List ℕ) → Says line ⊎ SaysNothing line
-says_of line = elim (bool_cases (bytes_eq line (codes "end"))) [
-  | inl e ↦ inl (record { command = Command.End; form = tt; stands = sym ((bytes_eq-Decides line (codes "end")).0 e) })
-  | inr no_end ↦ elim (bool_cases (bytes_eq line (codes "check"))) [
-    | inl e ↦ inl (record { command = Command.Do Asked.Check; form = tt; stands = sym ((bytes_eq-Decides line (codes "check")).0 e) })
-    | inr no_check ↦ elim (bool_cases (bytes_eq (take 5 line) (codes "drop "))) [
-      | inl d ↦ subst (λ l. Says l ⊎ SaysNothing l) (prefix_stands line (codes "drop ") d) (drop_says (drop 5 line))
-      | inr no_drop ↦ elim (bool_cases (bytes_eq (take 6 line) (codes "links "))) [
-        | inl l ↦ subst (λ l. Says l ⊎ SaysNothing l) (prefix_stands line (codes "links ") l) (links_says (drop 6 line))
-        | inr no_links ↦ elim (bool_cases (bytes_eq (take 5 line) (codes "find "))) [
-          | inl f ↦ subst (λ l. Says l ⊎ SaysNothing l) (prefix_stands line (codes "find ") f) (find_says (drop 5 line))
-          | inr no_find ↦ elim (bool_cases (bytes_eq (take 4 line) (codes "put "))) [
-            | inl p ↦ subst (λ l. Says l ⊎ SaysNothing l) (prefix_stands line (codes "put ") p) (put_says (drop 4 line))
-            | inr no_put ↦ inr (other_none line (record {
-              no_end = no_end;
-              no_check = no_check;
-              no_drop = no_drop;
-              no_links = no_links;
-              no_find = no_find;
-              no_put = no_put;
-            }))
+says_of line = elim (bare_says line (codes "end") Command.End tt refl) [
+  | inl s ↦ inl s
+  | inr no_end ↦ elim (bare_says line (codes "check") (Command.Do Asked.Check) tt refl) [
+    | inl s ↦ inl s
+    | inr no_check ↦ elim (bare_says line (codes "implied") (Command.Do Asked.Implied) tt refl) [
+      | inl s ↦ inl s
+      | inr no_implied ↦ elim (prefix_says line (codes "drop ") drop_says) [
+        | inl s ↦ s
+        | inr no_drop ↦ elim (prefix_says line (codes "links ") links_says) [
+          | inl s ↦ s
+          | inr no_links ↦ elim (prefix_says line (codes "find ") find_says) [
+            | inl s ↦ s
+            | inr no_find ↦ elim (prefix_says line (codes "put ") put_says) [
+              | inl s ↦ s
+              | inr no_put ↦ inr (other_none line (record {
+                no_end = no_end;
+                no_check = no_check;
+                no_implied = no_implied;
+                no_drop = no_drop;
+                no_links = no_links;
+                no_find = no_find;
+                no_put = no_put;
+              }))
+            ]
           ]
         ]
       ]

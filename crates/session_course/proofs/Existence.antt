@@ -147,6 +147,8 @@ sized_front book bytes back (Command.Do Asked.Check) form short size stands =
     whole_front book bytes (Command.Do Asked.Check) back form short size (stands_so (Command.Do Asked.Check) bytes back back stands refl)
 sized_front book bytes back (Command.Do (Asked.Find words)) form short size stands =
     whole_front book bytes (Command.Do (Asked.Find words)) back form short size (stands_so (Command.Do (Asked.Find words)) bytes back back stands refl)
+sized_front book bytes back (Command.Do Asked.Implied) form short size stands =
+    whole_front book bytes (Command.Do Asked.Implied) back form short size (stands_so (Command.Do Asked.Implied) bytes back back stands refl)
 sized_front book bytes back Command.End form short size stands =
     whole_front book bytes Command.End back form short size (stands_so Command.End bytes back back stands refl)
 

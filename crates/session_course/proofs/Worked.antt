@@ -108,7 +108,15 @@ of_list =
         | inl e ↦ omega (arith, e)
         | inr n ↦ elim n [ inl e ↦ omega (arith, e) | inr o ↦ elim o [ inl e ↦ omega (arith, e) | inr p ↦ elim p [ inl e ↦ omega (arith, e) | inr q ↦ q ] ] ]
       ];
-      none = other_none (codes "list") (record { no_end = refl; no_check = refl; no_drop = refl; no_links = refl; no_find = refl; no_put = refl });
+      none = other_none (codes "list") (record {
+        no_end = refl;
+        no_check = refl;
+        no_implied = refl;
+        no_drop = refl;
+        no_links = refl;
+        no_find = refl;
+        no_put = refl;
+      });
       stands = refl;
     } in
     let check : Command = Command.Do Asked.Check in

@@ -73,6 +73,10 @@ impl Answering for Bare {
     fn find<K: Sink>(&mut self, _words: &Text, _output: &mut K) -> Result<(), AnswerFault> {
         Err(AnswerFault::NoMemory)
     }
+
+    fn implied<K: Sink>(&mut self, output: &mut K) -> Result<(), AnswerFault> {
+        give_piece(output, b"implied 0\n")
+    }
 }
 
 impl Opening for Bare {

@@ -38,3 +38,8 @@ wanted_bare c a = (inl (gave_none a), refl)
 pub counts_of_none : Answers [] [] Asked.Check (codes "check files 0 references 0 faults 0\n")
 unfolding digits
 counts_of_none = refl
+
+-- nothing is implied without files
+pub implied_of_none : Answers [] [] Asked.Implied (codes "implied 0\n")
+unfolding digits
+implied_of_none = refl

@@ -64,6 +64,12 @@ pub trait Answering {
         requires few { length words.now < 2 ^ 32 }
         ensures answered { IsAnswered (holding self.old) (holding self.new) (Asked.Find words.now)
             (across K.given K.faults output.old output.new) result };
+
+    /// Lists the implied specialisations of all files.
+    fn implied<K: Sink>(&mut self, output: &mut K) -> Result<(), AnswerFault>
+        requires whole { (holding self.old).broken ≡ false }
+        ensures answered { IsAnswered (holding self.old) (holding self.new) Asked.Implied
+            (across K.given K.faults output.old output.new) result };
 }
 
 /// Gives a piece of an answer, whole or after a failure a front of it.

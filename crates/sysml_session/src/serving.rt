@@ -85,6 +85,7 @@ fn answer<P: Answering, K: Sink, L: Ledger>(
         Command::Links { name } => flow_after(project.links(&name, output)),
         Command::Check => flow_after(project.check(output)),
         Command::Find { words } => flow_after(project.find(&words, output)),
+        Command::Implied => flow_after(project.implied(output)),
         Command::End => give_end(output),
     }
 }

@@ -72,6 +72,10 @@ impl Answering for Bare {
     fn find<K: Sink>(&mut self, _words: &Text, _output: &mut K) -> Result<(), AnswerFault> {
         Err(AnswerFault::NoMemory)
     }
+
+    fn implied<K: Sink>(&mut self, output: &mut K) -> Result<(), AnswerFault> {
+        give_piece(output, b"implied 0\n")
+    }
 }
 
 /// How a session over the bare project ends, with objects that move at most `size` bytes a call, of which
@@ -132,6 +136,26 @@ fn sessions_end_as_the_table_says(rt: HostRuntime) -> Result<(), Fail> {
             counts,
             Err(ServeFault::NoMemory),
         ),
+    ];
+    for (script, answers, result) in cases {
+        for size in SIZES {
+            let ended = ends(rt.alloc(), script, size, [&[], &[]], (answers, result))?;
+            assert!(rt; ended, "{script:?}, in pieces of {size}");
+        }
+    }
+    Ok(())
+}
+
+/// The answers of commands that only ask.
+#[test]
+fn questions_are_answered(rt: HostRuntime) -> Result<(), Fail> {
+    let cases = [
+        (
+            b"implied\nend\n".as_slice(),
+            b"implied 0\nend\n".as_slice(),
+            Ok(()),
+        ),
+        (b"implied \n", b"", Err(ServeFault::Script { at: 0 })),
     ];
     for (script, answers, result) in cases {
         for size in SIZES {

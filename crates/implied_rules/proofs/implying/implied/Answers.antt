@@ -13,10 +13,13 @@ at_rank-requires c =
 pub loop-rank-preserved : goal.loop-rank-preserved
 loop-rank-preserved c =
     listed_more c.args.models.now (reading c.args.models.now c.args.table.now) c.loop-rank.rank c.at_rank.result c.loop-rank.rows
-    c.add_file.new.rows c.loop-rank.invariant c.at_rank.ensures.ranked c.in_ok-add_file.ensures.said c.in_ok-add_file.ensures.owned
+    c.add_file.new.rows c.loop-rank.invariant c.at_rank.ensures.ranked c.in_ok-add_file.ensures.said c.in_ok-add_file.ensures.stand
 
 pub returns : goal.returns
 returns c =
     let all : c.loop-rank.rank ≡ c.project_files-rank-end.result = omega (arith, c.loop-rank-test.false, c.loop-rank.auto.rank-end) in
-    listed_all c.args.models.now (reading c.args.models.now c.args.table.now) c.loop-rank.rank c.loop-rank.rows c.loop-rank.invariant
-    (all ∙ c.project_files-rank-end.ensures)
+    record {
+      rows = listed_all c.args.models.now (reading c.args.models.now c.args.table.now) c.loop-rank.rank c.loop-rank.rows c.files.ensures.kept
+          c.loop-rank.invariant (all ∙ c.project_files-rank-end.ensures);
+      live = c.loop-rank.invariant.stand;
+    }

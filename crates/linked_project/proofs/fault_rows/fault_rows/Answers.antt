@@ -15,5 +15,5 @@ returns-clause-rows g c =
 pub returns-clause-live : goal.returns-clause-live
 returns-clause-live g c =
     let files = c.args.files.now in
-    faults_live files c.in_ok-order.order.items c.wrong_with.result c.requires.are (subst AreFiles c.models.ensures c.files.ensures.kept)
+    faults_live files c.in_ok-order.order.items c.wrong_with.result c.in_ok-order.ensures.own (subst AreFiles c.models.ensures c.files.ensures.kept)
     (subst (λ ns. IfOk c.wrong_with.result (λ rows. rows ≡ flat_map (wrong_at files) ns)) c.deref.ensures.value c.wrong_with.ensures)

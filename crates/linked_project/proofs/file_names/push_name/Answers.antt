@@ -7,4 +7,4 @@ pub returns-in_ok-name_of-in-Some : goal.returns-in_ok-name_of-in-Some
 returns-in_ok-name_of-in-Some c =
     subst (λ ns. OnOk c.push.result (c.push.new.self ≡ c.args.names.now ++ ns))
     (ap (λ n. n ∷ []) c.in_ok-name_of-in-Some.ensures
-    ∙ named_one c.args.files.now c.args.file c.in-Some.field-0 c.requires.are c.in-Some.ensures) c.push.ensures.ok
+    ∙ named_one c.args.files.now c.args.file c.in-Some.field-0 c.requires.own c.in-Some.ensures) c.push.ensures.ok

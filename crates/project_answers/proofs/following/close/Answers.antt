@@ -5,7 +5,7 @@ use Rattle.project_answers.proofs.following.close.Goals as goal
 pub returns-then-file-count : goal.returns-then-file-count
 returns-then-file-count g c = λ e.
     stays_beyond (g.G.Linking.follows c.args.linking.now).files c.files-files.result.now c.args.project.now.files c.args.file.0 c.count.result
-    c.files-files.ensures.lent c.count.ensures c.if-file-count.true c.requires
+    c.files-files.ensures.lent c.count.ensures c.if-file-count.true c.requires.over
 
 pub close-requires-clause-within : goal.close-requires-clause-within
 close-requires-clause-within g c =
@@ -15,4 +15,4 @@ close-requires-clause-within g c =
 pub close-requires-clause-own : goal.close-requires-clause-own
 close-requires-clause-own g c =
     stored_own c.models.result.now c.files-files.result.now c.args.project.now.files c.count.result c.models.ensures c.files-files.ensures.lent
-    c.count.ensures c.files-files.ensures.are c.args.file.0
+    c.count.ensures c.args.file c.requires.own

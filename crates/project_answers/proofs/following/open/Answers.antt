@@ -14,4 +14,4 @@ open-requires-clause-within g c =
 pub open-requires-clause-come : goal.open-requires-clause-come
 open-requires-clause-come g c =
     stored_come c.models.result.now c.files-files.result.now c.args.project.now.files c.count.result c.models.ensures c.files-files.ensures.lent
-    c.count.ensures (g.G.Linking.follows c.args.linking.now).files c.args.file c.requires c.files-files.ensures.are c.if-file-count.false
+    c.count.ensures (g.G.Linking.follows c.args.linking.now).files c.args.file c.requires c.if-file-count.false

@@ -10,7 +10,7 @@ loop-number-preserved c =
     let inv = c.loop-number.invariant in
     record {
       counted = subst (λ k. AreCounted files numbers (i + 1) k.files k.references) (sym c.with_file-counts.ensures.with)
-          (counted_with files numbers i c.loop-number.counts _ c.report.result c.loop-number-test.true c.requires.are
+          (counted_with files numbers i c.loop-number.counts _ c.report.result c.loop-number-test.true (c.requires.own i _ c.loop-number-test.true)
           c.report.ensures c.with_file-counts.ensures.few inv.counted);
       faults = ap (λ k. k.faults) c.with_file-counts.ensures.with ∙ (faults_stay c.loop-number.counts c.report.result ∙ inv.faults);
     }

@@ -26,5 +26,9 @@ pub returns-in-Find : goal.returns-in-Find
 returns-in-Find g c = answered_as _ _ (Asked.Find c.in-Find.words) _ c.find.result _ _
     (ap command_of c.in-Find.is) c.flow_after-in-Find.ensures c.find.ensures.answered
 
+pub returns-in-Implied : goal.returns-in-Implied
+returns-in-Implied g c = answered_as _ _ Asked.Implied _ c.implied.result _ _
+    (ap command_of c.in-Implied.is) c.flow_after-in-Implied.ensures c.implied.ensures.answered
+
 pub returns-in-End : goal.returns-in-End
 returns-in-End g c = end_answered _ _ _ c.give_end.result (ap command_of c.in-End.is) c.requires.whole c.give_end.ensures

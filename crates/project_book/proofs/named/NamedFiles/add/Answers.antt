@@ -12,7 +12,8 @@ add-requires-clause-fresh c =
     let files = c.self.inside.files in
     let name = c.of.ensures ∙ (c.in_ok-bytes.ensures.items ∙ c.bytes.ensures.lent) in
     let new = subst (λ fs. number_under fs c.args.name ≡ length fs) (sym c.self.view_is) c.requires.fresh in
-    subst (λ n. IsMember (map (λ (f : ProjectFile). f.name) files) n → ⊥) (sym name) (name_fresh 0 files c.args.name c.self.invariant.0 new)
+    subst (λ n. IsMember (map (λ (f : ProjectFile). f.name) files) n → ⊥) (sym name)
+    (name_fresh 0 files c.args.name c.self.invariant.0 c.bytes.ensures.name new)
 
 pub invariant_of-self-2 : goal.invariant_of-self-2
 invariant_of-self-2 c =
@@ -25,7 +26,7 @@ invariant_of-self-2 c =
       subst AreRead (sym whole) (read_named 0 files c.args.name c.self.invariant.0),
       c.in-Ok.ensures.entries
           ∙ (ap (λ es. insert_entry (pointwise nat_eq) es c.args.name c.in_ok-file.file) (c.in_ok-reserve.ensures.entries ∙ c.self.invariant.1)
-          ∙ (numbers_named 0 files c.args.name c.in_ok-file.file c.self.invariant.0 new (omega (arith, c.in_ok-file.ensures.number))
+          ∙ (numbers_named 0 files c.args.name c.in_ok-file.file new (omega (arith, c.in_ok-file.ensures.number))
           ∙ ap (numbers_from 0) (sym whole))),
     )
 

@@ -1,17 +1,18 @@
-use Rattle.std.proofs.Common.{◌∙◌, None, length, sym, ap, subst}
+use Rattle.std.proofs.Common.{◌≡◌, ◌∙◌, None, length, sym, ap, subst}
 use Rattle.std.specs.Option.{option_map}
-use Rattle.book_model.specs.Files.{Content}
+use Rattle.book_model.specs.Files.{Content, number_under}
 use Rattle.project_files.specs.Kept.{content_at, with_content_at}
 use Rattle.project_book.specs.Named.{AreRead, numbers_from}
-use Rattle.project_book.proofs.NamedLaws.{content_put, numbers_changed, read_changed, sizes_same}
+use Rattle.project_book.proofs.NamedLaws.{content_put, numbers_changed, own_under, read_changed, sizes_same}
 use Rattle.project_book.proofs.HeldLaws.{text_there, text_nowhere}
 use Rattle.project_book.proofs.named.NamedFiles.clear.Goals as goal
 
 pub invariant_of-self : goal.invariant_of-self
 invariant_of-self c =
     let files = c.self.inside.files in
-    let at = c.in-Some.file.0 in (
-      subst AreRead (sym c.clear.ensures) (read_changed 0 files at None c.self.invariant.0 (λ f is. tt)),
+    let at = c.in-Some.file.0 in
+    let under : number_under files c.args.name.now ≡ at = ap (λ fs. number_under fs c.args.name.now) c.self.view_is ∙ c.in-Some.ensures.0 in (
+      subst AreRead (sym c.clear.ensures) (read_changed 0 files at None c.self.invariant.0 (own_under files c.args.name.now at under) (λ f is. tt)),
       c.self.invariant.1 ∙ sym (ap (numbers_from 0) c.clear.ensures ∙ numbers_changed 0 files at None),
     )
 

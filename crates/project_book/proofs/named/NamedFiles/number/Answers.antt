@@ -11,4 +11,4 @@ returns c =
     let looked : lookup (pointwise nat_eq name) (numbers_from 0 c.self.inside.files) ≡ c.copied.result =
     sym (ap (lookup (pointwise nat_eq name)) c.self.invariant.1) ∙ (sym c.get.ensures.value ∙ sym c.copied.ensures) in
     subst (λ files. IsNumberUnder files name c.copied.result) c.self.view_is
-    (number_found c.self.inside.files name c.self.invariant.0 c.copied.result looked)
+    (number_found c.self.inside.files name c.copied.result looked)

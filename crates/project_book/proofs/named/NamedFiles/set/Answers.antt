@@ -1,4 +1,5 @@
-use Rattle.std.proofs.Common.{◌≡◌, ◌∙◌, ◌+◌, [], Some, sym, ap, subst, zero-add}
+use Rattle.std.proofs.Common.{◌≡◌, ◌∙◌, ◌+◌, List, [], Some, false, sym, ap, subst, zero-add}
+use Rattle.std.specs.Prelude.{slice_get}
 use Rattle.std.specs.Option.{option_map_or}
 use Rattle.book_model.specs.Files.{ProjectFile, IsContentOf, name_at}
 use Rattle.book_model.specs.Readings.{language_of}
@@ -21,8 +22,9 @@ invariant_of-self c =
     let file = c.args.file in
     let read = c.args.read in
     let content = content_of (Some read.model) (Some (record { text = read.text; fault = read.fault })) in
+    let own = subst (λ (fs : List ProjectFile). (f : ProjectFile) → slice_get fs file.0 ≡ Some f → f.library ≡ false) (sym c.self.view_is) c.requires.own in
     let said = subst (λ fs. IsReadAs file (language_of (name_at fs file)) read.text read.fault read.model) (sym c.self.view_is) c.requires.as_read in (
-      subst AreRead (sym c.put.ensures) (read_changed 0 files file.0 content c.self.invariant.0 (λ f at.
+      subst AreRead (sym c.put.ensures) (read_changed 0 files file.0 content c.self.invariant.0 own (λ f at.
           let number : file.0 ≡ 0 + file.0 = sym (zero-add file.0) in
           let name : name_at files file ≡ f.name = ap (λ o. option_map_or (λ (x : ProjectFile). x.name) o []) at in
           subst (λ k. IsContentOf (record { 0 = k }) (language_of f.name) (text_in_content content) content) number

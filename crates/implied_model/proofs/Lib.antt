@@ -1,0 +1,2 @@
+pub mod FoundOwners
+pub mod RankOrder
