@@ -1,14 +1,18 @@
 -- The asking of a key is what the rules say: it waits on one key at a time, which is a list in any order.
-use Rattle.std.proofs.Common.{◌≡◌, ◌∙◌, List, [], ◌∷◌, ◌++◌, refl, sym, ap}
+use Rattle.std.proofs.Common.{◌≡◌, ◌∙◌, List, [], ◌∷◌, ◌++◌, refl, sym, ap, subst}
 use Rattle.std.specs.Prelude.{Result, Ok, Err, IfOk, OnOk}
-use Rattle.linker_base.specs.Members.{Adds}
+use Rattle.linker_base.specs.Members.{Adds, IsMember}
 use Rattle.linker_base.proofs.MemberLaws.{same_members}
+use Rattle.demand_core.specs.EngineState.{EngineState}
+use Rattle.demand_core.specs.Rules.{Meaning}
+use Rattle.demand_core.specs.Settled.{CanSettle}
 use Rattle.demand_core.specs.Tables.{entry_of}
 use Rattle.demand_core.specs.Computed.{world, each_once, ordered_step}
 use Rattle.demand_core.specs.declared.step.Step.{Step}
 use Rattle.demand_core.specs.declared.step.Step.TheVariants.{Done, Waits}
 use Rattle.link_model.specs.Outside.{Library}
 use Rattle.link_model.specs.Readers.{LinkWorld}
+use Rattle.value_model.specs.declared.values.NoFact.{NoFact}
 use Rattle.value_model.specs.declared.values.ValueAnswer.{ValueAnswer}
 use Rattle.value_model.specs.declared.values.ValueKey.{ValueKey}
 use Rattle.value_model.specs.Keys.{same_value_key}
@@ -39,3 +43,14 @@ asked_in_order w lib key entries =
 
 pub adds_all : {A : Type 0} (old new added : List A) → new ≡ old ++ added → Adds old new added
 adds_all old new added is = record { added = added; whole = is; same = same_members added }
+
+-- an engine that holds nothing can settle all keys
+pub settles_all : (m : Meaning ValueKey ValueAnswer NoFact) (fresh : List ValueKey) (e : EngineState ValueKey ValueAnswer NoFact) → fresh ≡ m.keys
+    → e ≡ record { table = []; cyclic = []; looks = []; stamps = []; asked = 0 } → CanSettle same_value_key m fresh e
+settles_all m fresh e all none = subst (CanSettle same_value_key m fresh) (sym none) (record {
+  keys = λ k i. subst (λ ks. IsMember ks k) all i;
+  unheld = λ k i. (refl, refl);
+  held = λ k i out. absurd (out (subst (λ ks. IsMember ks k) (sym all) i));
+  looks = λ k i out. absurd (out (subst (λ ks. IsMember ks k) (sym all) i));
+  only = λ k out. (refl, refl);
+})

@@ -7,7 +7,7 @@ ghost use Rattle.value_model.specs.Valuing.{AreValueKeys, NamesFeatures, value_b
 ghost use Rattle.value_model.proofs.ValueLaws.{value_lawful, ordered_values};
 
 use crate::keys::ValueKeys;
-use demand_core::{Answer, Ledger, Looks, Rules, Step, Steps, Table, rounds};
+use demand_core::{Answer, Engine, Ledger, Looks, Rules, Step, Steps, Table};
 use link_model::View;
 use linker_base::NoMemory;
 use std::alloc::Global;
@@ -57,7 +57,8 @@ impl<'a, M: Meanings> Rules<ValueKey, ValueAnswer, NoFact> for ValueRules<'a, M>
 
 /// What a key is worth by the rules over a list of keys that holds it: its value, or why there is
 /// none. A key that hangs on itself is circular, with the feature of the key on which it waits in
-/// the end. `NoMemory` is want of memory alone.
+/// the end. Keys are asked on demand: each at most twice, and once more for each key at which it looks.
+/// `NoMemory` is want of memory alone.
 pub fn value_over<M: Meanings, L: Ledger>(
     alloc: Global,
     rules: &ValueRules<M>,
@@ -73,7 +74,8 @@ pub fn value_over<M: Meanings, L: Ledger>(
         (M.library rules.now.meanings.now) rules.now.keys.now) key) }
     ensures names { IfOk result (NamesFeatures (M.links rules.now.meanings.now)) }
 {
-    let engine = rounds(alloc, rules, rules.keys.as_slice(), steps)?;
+    let mut engine = Engine::new(alloc);
+    engine.settle(rules, rules.keys.as_slice(), steps)?;
     match engine.answer(key) {
         Answer::Decided(answer) => copy_answer(alloc, answer),
         Answer::Cyclic(on) => Ok(ValueAnswer::Refused(ValueFault::Circular(on.feature))),
