@@ -5,7 +5,7 @@
   make_session_examples.py --check   fails where they differ from what would be written
 
 The script has the worked scripts, as far as their commands stand by now, and 300 random books of one to four files, each
-put, checked and listed with what is implied, with two names that are asked for, a quarter of them changed in one file and checked again. The other program stands beside the repository, in ../shared/oracle;
+put, checked and listed with what is implied, with two names that are asked for and a file that is printed, a quarter of them changed in one file and checked again. The other program stands beside the repository, in ../shared/oracle;
 where it isn't, nothing is checked.
 """
 import glob
@@ -19,10 +19,10 @@ sys.dont_write_bytecode = True
 from example_texts import HAS_OTHER, SHARED
 from random_books import book, text
 
-STAGE = 7
+STAGE = 9
 SEED = 20261201
 BOOKS = 300
-COMMANDS = (b'put', b'drop', b'links', b'check', b'find', b'implied')
+COMMANDS = (b'put', b'drop', b'links', b'check', b'find', b'implied', b'print')
 WORD = re.compile(rb"[A-Za-z_]\w*|'[^'\n]*'")
 CRATE = os.path.join(os.path.dirname(os.path.abspath(__file__)), '..', 'crates', 'sysml')
 if HAS_OTHER:
@@ -78,7 +78,7 @@ def random_book(chance, asking, changes):
     files = [(b'm%d.%s' % (i, language.encode()), written.encode()) for i, (language, written) in enumerate(book(chance))]
     said = b''.join(put(name, written) for name, written in files)
     said += b'check\nimplied\n' + b''.join(b'links %s\n' % name for name, _ in files)
-    said += b''.join(finding(asking, files) for _ in range(2))
+    said += b''.join(finding(asking, files) for _ in range(2)) + b'print %s\n' % files[0][0]
     name = chance.choice(files)[0]
     if not changes:
         return said + b''.join(b'drop %s\n' % name for name, _ in files)

@@ -15,12 +15,12 @@ use Rattle.text_laws.proofs.BuiltModel.{built_is_model}
 use Rattle.text_laws.proofs.OutcomeLaws.{one_model, model_or_fault, one_fault}
 use Rattle.text_laws.proofs.SomeOutcome.{some_outcome}
 use Rattle.text_laws.specs.Outcomes.{HasOutcome}
-use Rattle.book_model.specs.Answers.{Command, book_after, put_answer, drop_answer, links_answer, check_answer, find_answer, implied_answer, Answers, AreAnswers}
+use Rattle.book_model.specs.Answers.{Command, book_after, put_answer, drop_answer, links_answer, check_answer, find_answer, implied_answer, print_answer, Answers, AreAnswers}
 use Rattle.book_model.specs.Book.{Book, text_in}
 use Rattle.book_model.specs.Files.{LibraryTexts, Entry, entries_of, Content, ProjectFile, IsContentOf, AreFilesFrom, AreFilesOf, stored}
 use Rattle.book_model.specs.Laws.{OneReading, TextsHaveModels, IsSmall}
 use Rattle.book_model.specs.Outcomes.{IsOutcome, outcome_of}
-use Rattle.book_model.specs.Queries.{file_query, links_query, reports, faults_query, implied_query}
+use Rattle.book_model.specs.Queries.{file_query, links_query, reports, faults_query, implied_query, print_query}
 use Rattle.book_model.specs.Readings.{Reading, IsReading, language_of}
 use Rattle.book_model.proofs.AskedLaws.{some_asked}
 use Rattle.book_model.proofs.FileLaws.{one_reading, one_files, one_answers}
@@ -69,6 +69,7 @@ answer_by : (book : Book) (files : List ProjectFile) (c : Command) → (answer :
 answer_by book files (Command.Put name text) = (put_answer name (file_query files name), refl)
 answer_by book files (Command.Drop name) = (drop_answer name (text_in book name), refl)
 answer_by book files (Command.Links name) = (links_answer files name (links_query files name), refl)
+answer_by book files (Command.Print name) = (print_answer name (print_query files name), refl)
 answer_by book files Command.Check = (check_answer files (reports files) (faults_query files), refl)
 answer_by book files (Command.Find words) = let name = asked_from words in (find_answer files name.0, (name.0, name.1, refl))
 answer_by book files Command.Implied = (implied_answer files (implied_query files), refl)

@@ -67,6 +67,7 @@ one_answer_by book files Command.Check a b p q = p ∙ sym q
 one_answer_by book files (Command.Find words) a b (n, asked, is) (m, asked', is') =
     is ∙ (ap (find_answer files) (one_asked words n m asked asked') ∙ sym is')
 one_answer_by book files Command.Implied a b p q = p ∙ sym q
+one_answer_by book files (Command.Print name) a b p q = p ∙ sym q
 
 -- so it has one answer, and commands have one list of answers
 pub one_answer : OneReading → (library : LibraryTexts) (book : Book) (c : Command) (a b : List ℕ) → IsAnswer library book c a → IsAnswer library book c b

@@ -12,15 +12,17 @@ use Rattle.book_model.specs.declared.rows.LinkRow.{LinkRow}
 use Rattle.book_model.specs.declared.rows.FaultRow.{FaultRow}
 use Rattle.book_model.specs.declared.rows.FileReport.{FileReport}
 use Rattle.book_model.specs.declared.rows.FileReport.TheVariants.{In, Refused}
+use Rattle.book_model.specs.declared.rows.Printed.{Printed}
+use Rattle.book_model.specs.declared.rows.Printed.TheVariants as printed
 use Rattle.book_model.specs.AskedNames.{AskFor}
 use Rattle.book_model.specs.Book.{Book, text_in, edited, left_by, number_of}
 use Rattle.book_model.specs.Files.{LibraryTexts, ProjectFile, AreFilesOf}
-use Rattle.book_model.specs.Queries.{file_query, links_query, reports, faults_query, find_query, implied_query}
-use Rattle.book_model.specs.Printed.{report_text, row_text, fault_row_text, outcome_text, implication_text}
+use Rattle.book_model.specs.Queries.{file_query, links_query, reports, faults_query, find_query, implied_query, print_query}
+use Rattle.book_model.specs.Printed.{report_text, row_text, fault_row_text, outcome_text, implication_text, refusal_text}
 use Rattle.book_model.specs.Spelling.{written_name}
 
 -- put a text under a name; drop the text under a name; list the links of a file; list what is wrong with all files;
--- find the qualified name that words ask for; list the implied specialisations of all files
+-- find the qualified name that words ask for; list the implied specialisations of all files; print a file
 pub data Command : Type 0 where
   Put : (name text : List ℕ) → Command
   Drop : (name : List ℕ) → Command
@@ -28,6 +30,7 @@ pub data Command : Type 0 where
   Check : Command
   Find : (words : List ℕ) → Command
   Implied : Command
+  Print : (name : List ℕ) → Command
 
 -- the edit of a command, if it has one
 abbrev pub edit_of : Command → Option Edit
@@ -93,6 +96,12 @@ implied_answer files rows =
     flat_map (λ row. implication_text files row ++ codes "\n") rows
     ++ codes "implied " ++ decimal (length rows) ++ codes "\n"
 
+-- PRINT. The number of bytes of the file's canonical text, and the text; or its fault, or that no text is present.
+abbrev pub print_answer : List ℕ → Option Printed → List ℕ
+print_answer name None = line (codes "print") name no_file
+print_answer name (Some (printed.Text text)) = line (codes "print") name (decimal (length text)) ++ text
+print_answer name (Some (printed.Refused fault place)) = line (codes "print") name (refusal_text fault place)
+
 -- THE ANSWER of a command over a book, by the files of the book that it leaves
 abbrev pub Answers : Book → List ProjectFile → Command → List ℕ → Type 0
 Answers book files (Command.Put name text) answer = answer ≡ put_answer name (file_query files name)
@@ -102,6 +111,7 @@ Answers book files Command.Check answer = answer ≡ check_answer files (reports
 Answers book files (Command.Find words) answer =
     (name : Option AskedName) × AskFor words name × (answer ≡ find_answer files name)
 Answers book files Command.Implied answer = answer ≡ implied_answer files (implied_query files)
+Answers book files (Command.Print name) answer = answer ≡ print_answer name (print_query files name)
 
 -- the answer of a command over a library, whatever files the book has
 pub record IsAnswer (library : LibraryTexts) (book : Book) (c : Command) (answer : List ℕ) : Type 0 where

@@ -14,11 +14,12 @@ use Rattle.book_model.specs.declared.rows.Place.{Place}
 use Rattle.book_model.specs.declared.rows.LinkRow.{LinkRow}
 use Rattle.book_model.specs.declared.rows.FaultRow.{FaultRow}
 use Rattle.book_model.specs.declared.rows.FileReport.{FileReport}
+use Rattle.book_model.specs.declared.rows.Printed.{Printed}
 use Rattle.book_model.specs.Files.{ProjectFile, stored, text_at, model_at, content_under, ranked}
 use Rattle.book_model.specs.Labels.{label_of}
 use Rattle.book_model.specs.Outcomes.{outcome_of, found_of, linked_world}
 use Rattle.book_model.specs.Places.{place_of}
-use Rattle.book_model.specs.Rows.{Outcomes, rows_of, faults_in, report_of}
+use Rattle.book_model.specs.Rows.{Outcomes, rows_of, faults_in, printed_of, report_of}
 use Rattle.book_model.specs.Spelling.{written_name}
 
 -- what becomes of the references of these files
@@ -32,6 +33,10 @@ file_query files name = option_map report_of (content_under files name)
 -- the rows of that file
 abbrev pub links_query : List ProjectFile → List ℕ → Option (List LinkRow)
 links_query files name = option_map (rows_of (links_over files)) (content_under files name)
+
+-- PRINT, of the file under a name, or none where no text is present: its canonical text, or its fault
+abbrev pub print_query : List ProjectFile → List ℕ → Option Printed
+print_query files name = option_map printed_of (content_under files name)
 
 -- FIND: what becomes of a qualified name that is asked for from outside
 abbrev pub find_query : List ProjectFile → List (List ℕ) → Outcome

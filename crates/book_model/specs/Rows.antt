@@ -14,6 +14,9 @@ use Rattle.book_model.specs.declared.rows.FaultRow.{FaultRow}
 use Rattle.book_model.specs.declared.rows.FaultRow.TheVariants.{File, Link}
 use Rattle.book_model.specs.declared.rows.FileReport.{FileReport}
 use Rattle.book_model.specs.declared.rows.FileReport.TheVariants.{In, Refused}
+use Rattle.book_model.specs.declared.rows.Printed.{Printed}
+use Rattle.book_model.specs.declared.rows.Printed.TheVariants as printed
+use Rattle.print_model.specs.Heads.{printed_text}
 use Rattle.book_model.specs.Readings.{Reading, fault_place}
 use Rattle.book_model.specs.Files.{Content, ProjectFile, ranked}
 use Rattle.book_model.specs.Places.{place_of}
@@ -91,3 +94,12 @@ report_by text (Reading.Fault fault) = Refused fault (place_of text (fault_place
 -- the report of a content
 abbrev pub report_of : Content → FileReport
 report_of c = report_by c.text c.reading
+
+-- PRINT. The canonical text of a file's model; or its fault.
+abbrev pub printed_by : List ℕ → Reading → Printed
+printed_by text (Reading.Model d) = printed.Text (printed_text d)
+printed_by text (Reading.Fault fault) = printed.Refused fault (place_of text (fault_place fault))
+
+-- what printing a content gives
+abbrev pub printed_of : Content → Printed
+printed_of c = printed_by c.text c.reading

@@ -127,6 +127,15 @@ put_of_faulty = refl
 pub links_without_file : Answers book files (Command.Links (codes "x.sysml")) (codes "links x.sysml no file\n")
 links_without_file = refl
 
+-- shown: printing a text with a fault
+pub print_of_faulty : Answers book files (Command.Print (codes "c.sysml")) (codes "print c.sysml refused 1:10 Syntax\n")
+unfolding digits
+print_of_faulty = refl
+
+-- shown: printing a name that isn't there
+pub print_without_file : Answers book files (Command.Print (codes "x.sysml")) (codes "print x.sysml no file\n")
+print_without_file = refl
+
 -- shown: a drop of a text
 pub drop_of_file : Answers book files (Command.Drop (codes "c.sysml")) (codes "drop c.sysml done\n")
 drop_of_file = refl

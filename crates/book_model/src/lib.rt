@@ -20,4 +20,4 @@ pub use laws::{
     outcomes_name_what_stands, references_have_outcomes, rows_are_exact, stored_files_are_files,
     texts_are_found,
 };
-pub use rows::{FaultRow, FaultRows, FileReport, LinkRow, LinkRows, Place};
+pub use rows::{FaultRow, FaultRows, FileReport, LinkRow, LinkRows, Place, Printed};

@@ -1,4 +1,4 @@
-use element_store::{FileName, Outcome, RefNo, Role};
+use element_store::{FileName, Outcome, RefNo, Role, Text};
 use linker_base::Listing;
 use text_model::FileFault;
 
@@ -16,6 +16,15 @@ pub enum FileReport {
     /// A text within the profile: the numbers of its elements, without the root, and of its references.
     In { elements: u32, references: u32 },
     /// A text with this fault, and the fault's place.
+    Refused { fault: FileFault, place: Place },
+}
+
+/// What printing a file of the book gives.
+#[derive(Drop)]
+pub enum Printed {
+    /// The canonical text of the file's model.
+    Text(Text),
+    /// The text of the file isn't within the profile: its fault, and the fault's place.
     Refused { fault: FileFault, place: Place },
 }
 

@@ -31,7 +31,8 @@ use Rattle.project_answers.specs.RowLines.{reference_at}
 use Rattle.project_answers.specs.Spots.{rising_spots, spot_of}
 use Rattle.project_answers.specs.Wrong.{present_at, presents, wrong_at, wrong_with}
 use Rattle.project_answers.proofs.PartLaws.{more_at, told_both}
-use Rattle.project_answers.proofs.RowLaws.{content_model, model_is, names_live, rising_live, row_standing}
+use Rattle.project_book.proofs.PrintLaws.{content_model}
+use Rattle.project_answers.proofs.RowLaws.{model_is, names_live, rising_live, row_standing}
 use Rattle.project_answers.proofs.WrongLaws.{no_content, present_is, present_isnt, read_content, refused_content, wrong_all, wrong_is}
 use Rattle.linked_project.specs.Listed.{IsLiveFault, IsLiveRow, present_names, rows_at, spot_row, wrong_row, wrong_rows_at, wrong_spot}
 

@@ -3,7 +3,8 @@ ghost use Rattle.book_model.specs.declared.edit.Edit.TheVariants.{Drop as Droppe
 ghost use Rattle.book_model.specs.Files.{name_at};
 ghost use Rattle.book_model.specs.Live.{IsLiveElement, IsLiveMember, IsLiveReference, NamesLive};
 ghost use Rattle.book_model.specs.Queries.{faults_query, file_query, label, links_query, member_place};
-ghost use Rattle.book_model.specs.Queries.{names_query, reference_place, text_of_reference};
+ghost use Rattle.book_model.specs.Queries.{names_query, print_query, reference_place};
+ghost use Rattle.book_model.specs.Queries.{text_of_reference};
 ghost use Rattle.book_model.specs.Proper.{IsProperLibrary};
 ghost use Rattle.project_book.specs.Held.{IsApplied, IsOpened, texts_of};
 ghost use Rattle.project_answers.specs.ImpliedLines.{IsLiveImplied};
@@ -18,7 +19,7 @@ use crate::finding::found;
 use crate::link_rows::link_rows;
 use crate::query_fault::QueryFault;
 use crate::texts::{label_text, name_text, reference_text};
-use book_model::{Edit, FaultRows, FileReport, LinkRows, Place};
+use book_model::{Edit, FaultRows, FileReport, LinkRows, Place, Printed};
 use demand_core::{Ledger, Steps};
 use element_store::{ElementNo, FileName, FileNo, MemberNo, Outcome, RefNo, Text};
 use implied_rules::ImpliedRows;
@@ -276,6 +277,20 @@ impl<G: Linking> LinkedProject<G> {
         }
         match self.links.implied(self.book.files().models()) {
             Ok(rows) => Ok(rows),
+            Err(_) => Err(QueryFault::NoMemory),
+        }
+    }
+
+    /// The canonical text of a file's model, or the fault of its text.
+    pub fn print(&self, name: &FileName) -> Result<Printed, QueryFault>
+        ensures { IsAnswered self.now.broken (print_query self.now.files name.now) result }
+    {
+        if self.broken {
+            return Err(QueryFault::Broken);
+        }
+        match self.book.print(name) {
+            Ok(Some(printed)) => Ok(printed),
+            Ok(None) => Err(QueryFault::NoSuchFile),
             Err(_) => Err(QueryFault::NoMemory),
         }
     }

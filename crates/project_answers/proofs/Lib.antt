@@ -10,3 +10,4 @@ pub mod FindLaws
 pub mod FollowLaws
 pub mod ShippedLibrary
 pub mod ImpliedLaws
+pub mod PrintLaws

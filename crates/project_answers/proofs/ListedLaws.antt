@@ -32,7 +32,8 @@ use Rattle.project_answers.specs.Parts.{IsPart, sum_of}
 use Rattle.project_answers.specs.RowLines.{file_lines, file_counts}
 use Rattle.project_answers.specs.Wrong.{presents, wrong_with, wrong_lines, wrong_count_at, lines_at}
 use Rattle.project_answers.proofs.PartLaws.{fails_then}
-use Rattle.project_answers.proofs.RowLaws.{content_model, no_rows, rows_all}
+use Rattle.project_book.proofs.PrintLaws.{content_model}
+use Rattle.project_answers.proofs.RowLaws.{no_rows, rows_all}
 use Rattle.project_answers.proofs.WrongLaws.{wrong_lines_all, wrong_count_all}
 
 -- ---- a command that changes nothing, whose answer was given in parts

@@ -34,6 +34,7 @@ use Rattle.book_model.proofs.LiveLaws.{outcome_live}
 use Rattle.book_model.proofs.SortingLaws.{sorted_same}
 use Rattle.project_files.specs.Kept.{content_at}
 use Rattle.project_files.proofs.KeptLaws.{live_model, live_within}
+use Rattle.project_book.proofs.PrintLaws.{content_file, content_model}
 use Rattle.project_answers.specs.declared.rows.Listing.{Listing}
 use Rattle.project_answers.specs.declared.rows.Listing.TheVariants.{All as Everything, Faults}
 use Rattle.project_answers.specs.declared.spots.Spot.{Spot}
@@ -67,37 +68,6 @@ pub role_read : (files : List ProjectFile) (r : RefNo) (x : Reference) → slice
 role_read files r x at = sym (ap (λ o. option_map_or (λ (y : Reference). y.role) o Subclass) at)
 
 -- ---- a file whose text is present
-
--- the file of a content
-pub content_file : (files : List ProjectFile) (n : FileNo) (c : Content) → content_at files n ≡ Some c
-    → (f : ProjectFile) × (slice_get files n.0 ≡ Some f) × (f.content ≡ Some c)
-content_file files n c at = by (slice_get files n.0) refl where
-  by : (o : Option ProjectFile) → slice_get files n.0 ≡ o → (f : ProjectFile) × (slice_get files n.0 ≡ Some f) × (f.content ≡ Some c)
-  by None e = let nothing = sym at ∙ ap (option_and_then (λ (f : ProjectFile). f.content)) e in absurd (cc)
-  by (Some f) e = (f, e, sym (ap (option_and_then (λ (g : ProjectFile). g.content)) e) ∙ at)
-
--- what is stored of a file
-stored_get : (n : ℕ) (files : List ProjectFile) (i : ℕ) (f : ProjectFile) → slice_get files i ≡ Some f
-    → slice_get (stored_from n files) i ≡ Some (stored_file (record { 0 = n + i }) f)
-stored_get n [] i f e = cc
-stored_get n (g ∷ files) zero f e =
-    let number : n ≡ n + 0 = omega arith in
-    ap (λ h. Some (stored_file (record { 0 = n }) h)) (some_same g f e) ∙ ap (λ k. Some (stored_file (record { 0 = k }) f)) number
-stored_get n (g ∷ files) (suc i) f e =
-    let number : suc n + i ≡ n + suc i = omega arith in
-    stored_get (suc n) files i f e ∙ ap (λ k. Some (stored_file (record { 0 = k }) f)) number
-
--- its model is that of its reading
-pub content_model : (files : List ProjectFile) (n : FileNo) (c : Content) → content_at files n ≡ Some c
-    → HasModel files n (model_by n (language_of (name_at files n)) c.reading)
-content_model files n c at =
-    let f = content_file files n c at in
-    let number : 0 + n.0 ≡ n.0 = zero-add n.0 in
-    let name : f.0.name ≡ name_at files n = sym (ap (λ o. option_map_or (λ (g : ProjectFile). g.name) o []) f.1) in
-    ap (option_and_then (λ (x : StoredFile). x.model)) (stored_get 0 files n.0 f.0 f.1)
-    ∙ (ap (option_map (λ (x : Content). model_by (record { 0 = 0 + n.0 }) (language_of f.0.name) x.reading)) f.2
-    ∙ (ap (λ k. Some (model_by (record { 0 = k }) (language_of f.0.name) c.reading)) number
-    ∙ ap (λ name. Some (model_by n (language_of name) c.reading)) name))
 
 -- its text is that of its content
 content_text : (files : List ProjectFile) (n : FileNo) (c : Content) → content_at files n ≡ Some c → text_at files n ≡ c.text

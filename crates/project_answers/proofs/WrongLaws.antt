@@ -29,7 +29,8 @@ use Rattle.project_answers.specs.Parts.{sum_of}
 use Rattle.project_answers.specs.RowLines.{file_lines, file_counts}
 use Rattle.project_answers.specs.Wrong.{present_at, presents, wrong_with, wrong_lines, wrong_at, wrong_lines_at, wrong_count_at, lines_at}
 use Rattle.project_answers.proofs.PartLaws.{told_both, more_at}
-use Rattle.project_answers.proofs.RowLaws.{content_file, content_model, rows_wrong}
+use Rattle.project_book.proofs.PrintLaws.{content_file, content_model}
+use Rattle.project_answers.proofs.RowLaws.{rows_wrong}
 
 -- ---- the present file at a number
 

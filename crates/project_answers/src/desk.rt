@@ -10,6 +10,7 @@ use crate::following::{close, open, place_of};
 use crate::implications::answer_implied;
 use crate::linking::Linking;
 use crate::links::{answer_links, answer_no_links, present};
+use crate::printing::answer_print;
 use crate::words::name_in;
 use crate::wrong::answer_check;
 use demand_core::{Ledger, Steps};
@@ -136,6 +137,10 @@ impl<G: Linking> Answering for Desk<G> {
             Ok(()) => answer_implied(self.alloc, &self.project, &self.linking, output),
             Err(_) => Err(AnswerFault::NoMemory),
         }
+    }
+
+    fn print<K: Sink>(&mut self, name: &FileName, output: &mut K) -> Result<(), AnswerFault> {
+        answer_print(self.alloc, &self.project, name, output)
     }
 
     fn find<K: Sink>(&mut self, words: &Text, output: &mut K) -> Result<(), AnswerFault> {

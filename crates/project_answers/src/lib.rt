@@ -14,6 +14,7 @@ mod linking;
 mod links;
 mod order;
 mod parts;
+mod printing;
 mod rows;
 mod spots;
 mod words;

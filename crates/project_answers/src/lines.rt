@@ -3,10 +3,10 @@ ghost use Rattle.std.specs.Fmt.{decimal};
 ghost use Rattle.book_model.specs.Answers.{no_file};
 ghost use Rattle.book_model.specs.Files.{ProjectFile};
 ghost use Rattle.book_model.specs.declared.rows.FaultRow.TheVariants.{File};
-ghost use Rattle.book_model.specs.Printed.{fault_row_text, fault_text, report_text};
-ghost use Rattle.project_answers.specs.Lines.{counts_text, drop_rest, head_of, put_rest};
+ghost use Rattle.book_model.specs.Printed.{fault_row_text, fault_text, refusal_text, report_text};
+ghost use Rattle.project_answers.specs.Lines.{counts_text, drop_rest, head_of, print_rest, put_rest};
 
-use book_model::{FileReport, Place};
+use book_model::{FileReport, Place, Printed};
 use element_store::{FileName, Text};
 use linker_base::NoMemory;
 use project_book::Applied;
@@ -48,6 +48,16 @@ fn fault_word(fault: FileFault) -> &'static [u8]
     }
 }
 
+/// Appends a refusal: the fault of a text, and where it is.
+fn write_refusal(line: &mut Vec<u8>, fault: FileFault, place: Place) -> Result<(), NoMemory>
+    ensures { OnOk result (line.new.items ≡ line.old.items ++ refusal_text fault place) }
+{
+    write(line, b"refused ")?;
+    write_place(line, place)?;
+    write(line, b" ")?;
+    write(line, fault_word(fault))
+}
+
 /// Appends a report: how much the model of a text holds, or its fault and where it is.
 fn write_report(line: &mut Vec<u8>, report: FileReport) -> Result<(), NoMemory>
     ensures { OnOk result (line.new.items ≡ line.old.items ++ report_text report) }
@@ -62,12 +72,7 @@ fn write_report(line: &mut Vec<u8>, report: FileReport) -> Result<(), NoMemory>
             write(line, b" references ")?;
             write_number(line, references as usize)
         }
-        FileReport::Refused { fault, place } => {
-            write(line, b"refused ")?;
-            write_place(line, place)?;
-            write(line, b" ")?;
-            write(line, fault_word(fault))
-        }
+        FileReport::Refused { fault, place } => write_refusal(line, fault, place),
     }
 }
 
@@ -89,6 +94,19 @@ pub(crate) fn end_drop(line: &mut Vec<u8>, applied: Applied) -> Result<(), NoMem
     match applied {
         Applied::Changed => write(line, b"done")?,
         Applied::NotThere => write(line, b"no file")?,
+    }
+    write(line, b"\n")
+}
+
+/// Appends what a print answers in its line, and the end of the line.
+pub(crate) fn end_print(line: &mut Vec<u8>, printed: &Option<Printed>) -> Result<(), NoMemory>
+    ensures { OnOk result (line.new.items
+        ≡ line.old.items ++ print_rest printed.now ++ codes "\n") }
+{
+    match printed {
+        Some(Printed::Text(text)) => write_number(line, text.bytes().len())?,
+        Some(Printed::Refused { fault, place }) => write_refusal(line, *fault, *place)?,
+        None => write(line, b"no file")?,
     }
     write(line, b"\n")
 }

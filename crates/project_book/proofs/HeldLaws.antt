@@ -112,7 +112,7 @@ text_there files name file h is =
     ∙ (ap text_in_content (content_found files name) ∙ ap (λ k. text_in_content (content_at files (record { 0 = k }))) is)
 
 -- no file stands behind the last
-none_behind : (files : List ProjectFile) → content_at files (record { 0 = length files }) ≡ None
+pub none_behind : (files : List ProjectFile) → content_at files (record { 0 = length files }) ≡ None
 none_behind [] = refl
 none_behind (f ∷ fs) = none_behind fs
 

@@ -2,3 +2,4 @@ pub mod NamedLaws
 pub mod ReadLaws
 pub mod HeldLaws
 pub mod LibraryLaws
+pub mod PrintLaws

@@ -1,17 +1,19 @@
 ghost use Rattle.std.specs.Prelude.{◌≡◌, Some, IfOk, false};
 ghost use Rattle.book_model.specs.declared.edit.Edit.TheVariants.{Drop as Dropped};
 ghost use Rattle.book_model.specs.Proper.{IsProperLibrary};
+ghost use Rattle.book_model.specs.Queries.{print_query};
 ghost use Rattle.project_book.specs.Held.{IsApplied, IsOpened, IsPut, IsRoomFor, texts_of};
 ghost use Rattle.project_book.specs.Named.{AreOfBook, HaveMoved, IsNumberUnder, book_of};
 
 use crate::faults::{Applied, ApplyFault};
 use crate::named::NamedFiles;
-use book_model::Edit;
+use book_model::{Edit, FileReport, Printed};
 use demand_core::{Ledger, Steps};
 use element_store::{FileName, FileNo, Text};
 use library_texts::LibraryFile;
 use linker_base::NoMemory;
 use linker_base::limits::{BOOK_BYTES, FILE_BYTES, NAMES};
+use model_printer::print;
 use project_files::ProjectFiles;
 use std::alloc::Global;
 use std::marker::Model;
@@ -138,6 +140,27 @@ impl Project {
                 Ok(Applied::Changed)
             }
             None => Ok(Applied::NotThere),
+        }
+    }
+
+    /// What printing the file under a name gives, if its text is present: the canonical text of its model, or the
+    /// fault of its text.
+    pub fn print(&self, name: &FileName) -> Result<Option<Printed>, NoMemory>
+        ensures { IfOk result (λ printed. printed ≡ print_query self.now.files name.now) }
+    {
+        let files = self.named.files();
+        let Some(file) = self.named.number(name) else {
+            return Ok(None);
+        };
+        match files.report(file) {
+            None => Ok(None),
+            Some(FileReport::Refused { fault, place }) => {
+                Ok(Some(Printed::Refused { fault, place }))
+            }
+            Some(FileReport::In { .. }) => {
+                let text = print(self.alloc, files.model(file))?;
+                Ok(Some(Printed::Text(text)))
+            }
         }
     }
 

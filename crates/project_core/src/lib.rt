@@ -6,7 +6,7 @@ mod project;
 #[cfg(test)]
 mod tests;
 
-pub use book_model::{Edit, FaultRow, FaultRows, FileReport, LinkRow, LinkRows, Place};
+pub use book_model::{Edit, FaultRow, FaultRows, FileReport, LinkRow, LinkRows, Place, Printed};
 pub use implied_rules::{ImpliedRow, ImpliedRows};
 pub use linked_project::{FileNames, QueryFault};
 pub use project::Project;

@@ -2,7 +2,8 @@ ghost use Rattle.std.specs.Prelude.{◌≡◌, ◌<◌, ◌^◌, All as Each, If
 ghost use Rattle.book_model.specs.Files.{name_at};
 ghost use Rattle.book_model.specs.Live.{IsLiveElement, IsLiveMember, IsLiveReference, NamesLive};
 ghost use Rattle.book_model.specs.Queries.{faults_query, file_query, label, links_query, member_place};
-ghost use Rattle.book_model.specs.Queries.{names_query, reference_place, text_of_reference};
+ghost use Rattle.book_model.specs.Queries.{names_query, print_query, reference_place};
+ghost use Rattle.book_model.specs.Queries.{text_of_reference};
 ghost use Rattle.book_model.specs.Proper.{IsProperLibrary};
 ghost use Rattle.project_book.specs.Held.{IsApplied, IsOpened, texts_of};
 ghost use Rattle.project_answers.specs.ImpliedLines.{IsLiveImplied};
@@ -10,7 +11,7 @@ ghost use Rattle.linked_project.specs.Answered.{HasItsFiles, IsAnswered, IsFound
 ghost use Rattle.linked_project.specs.Listed.{IsLiveFault, IsLiveRow};
 
 use book_links::BookLinks;
-use book_model::{Edit, FaultRows, FileReport, LinkRows, Place};
+use book_model::{Edit, FaultRows, FileReport, LinkRows, Place, Printed};
 use demand_core::{Ledger, Steps};
 use element_store::{ElementNo, FileName, FileNo, MemberNo, Outcome, RefNo, Text};
 use implied_rules::ImpliedRows;
@@ -168,6 +169,17 @@ impl Project {
         ensures live { IfOk result (Each (IsLiveImplied self.now.files)) }
     {
         self.linked.implied()
+    }
+
+    /// The canonical text of the model of a file: each item on a line of its own, four blanks for each body in
+    /// which it stands, names quoted and brackets written only where they have to be; or the fault of its text,
+    /// with the place of the fault.
+    ///
+    /// `NoSuchFile` comes exactly where no text is present under the name.
+    pub fn print(&self, name: &FileName) -> Result<Printed, QueryFault>
+        ensures { IsAnswered self.now.broken (print_query self.now.files name.now) result }
+    {
+        self.linked.print(name)
     }
 
     /// What becomes of a qualified name that is asked for from outside, over the least linking; it may hang on

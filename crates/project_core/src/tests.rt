@@ -1,14 +1,13 @@
 //! A book in both languages through every query, before a drop and after it, with each refusal.
 
 ghost use Rattle.linked_project.specs.Listed.{IsLiveRow};
-ghost use Rattle.project_answers.specs.ImpliedLines.{IsLiveImplied};
 
 use crate::{
-    Applied, ApplyFault, Edit, FaultRow, FileReport, ImpliedRow, LinkRow, Place, Project,
+    Applied, ApplyFault, Edit, FaultRow, FileReport, ImpliedRow, LinkRow, Place, Printed, Project,
     QueryFault,
 };
 use demand_core::{Counted, Steps};
-use element_store::{FileName, Outcome, Text};
+use element_store::{ElementNo, FileName, Outcome, Text};
 use library_texts::library;
 use std::alloc::Global;
 use text_model::FileFault;
@@ -145,7 +144,30 @@ fn finds(project: &Project, words: &[u8], label: Option<&[u8]>) -> bool {
     }
 }
 
+/// Whether printing a file gives this text.
+fn prints(alloc: Global, project: &Project, name: &[u8], text: &[u8]) -> bool {
+    let Some(name) = named(alloc, name) else {
+        return false;
+    };
+    match project.print(&name) {
+        Ok(Printed::Text(printed)) => printed.bytes() == text,
+        _ => false,
+    }
+}
+
+/// What printing a file gives where it has no canonical text.
+fn unprinted(alloc: Global, project: &Project, name: &[u8]) -> Option<Result<Place, QueryFault>> {
+    match project.print(&named(alloc, name)?) {
+        Ok(Printed::Text(_)) => None,
+        Ok(Printed::Refused { place, .. }) => Some(Ok(place)),
+        Err(fault) => Some(Err(fault)),
+    }
+}
+
 const PARTS: &[u8] = b"package P { part def A; part b : A; part c : Z; }";
+
+/// The canonical text of the parts.
+const PRINTED_PARTS: &[u8] = b"package P {\n    part def A;\n    part b : A;\n    part c : Z;\n}\n";
 
 const CLASS: &[u8] = b"class C :> P::A;";
 
@@ -220,6 +242,23 @@ fn each_query_answers_by_the_book(rt: HostRuntime) {
     };
     assert!(rt; are_rows(alloc, &project, b"a.kerml", &[unlinked]));
     assert!(rt; finds(&project, b"P::b", None));
+}
+
+#[test]
+fn files_are_printed(rt: HostRuntime) {
+    let alloc = rt.alloc();
+    let Some(project) = filled(alloc) else {
+        panic!(rt; "the book isn't filled");
+    };
+    assert!(rt; prints(alloc, &project, b"a.kerml", b"class C :> P::A;\n"));
+    assert!(rt; prints(alloc, &project, b"b.sysml", PRINTED_PARTS));
+    let place = Place {
+        line: 1,
+        column: 10,
+    };
+    assert!(rt; unprinted(alloc, &project, b"c.sysml") == Some(Ok(place)));
+    let missing = Some(Err(QueryFault::NoSuchFile));
+    assert!(rt; unprinted(alloc, &project, b"d.sysml") == missing);
 }
 
 /// What is wrong with a file, by where it is: its fault, or a reference.
@@ -339,18 +378,25 @@ fn refusals_leave_the_book(rt: HostRuntime) {
     assert!(rt; project.spell_words(b"A in").err() == Some(QueryFault::BadName));
 }
 
-/// Whether a row says that the type with this label has that base, by a member in this column.
-fn is_implied(project: &Project, row: &ImpliedRow, expected: (u32, &[u8], &[u8])) -> bool
-    requires { IsLiveImplied project.now.files row.now }
-{
-    let (column, of, base) = expected;
-    project.member_place(row.member) == Ok(Place { line: 1, column })
-        && is_text(project.label(row.of), of)
-        && is_text(project.label(row.base), base)
+/// The element to which words lead.
+fn found(project: &Project, words: &[u8]) -> Option<ElementNo> {
+    if words.len() > 100 {
+        return None;
+    }
+    match project.find(words) {
+        Ok(Outcome::Linked { element, .. }) => Some(element),
+        _ => None,
+    }
+}
+
+/// Whether a row says that what the first words find has as its base what the second ones find.
+fn is_implied(project: &Project, row: &ImpliedRow, expected: (&[u8], &[u8])) -> bool {
+    let (of, base) = expected;
+    found(project, of) == Some(row.of) && found(project, base) == Some(row.base)
 }
 
 /// Whether these are the implied specialisations.
-fn are_implied(project: &Project, expected: &[(u32, &[u8], &[u8])]) -> bool {
+fn are_implied(project: &Project, expected: &[(&[u8], &[u8])]) -> bool {
     let Ok(rows) = project.implied() else {
         return false;
     };
@@ -375,10 +421,7 @@ fn the_library_stands_behind_the_book(rt: HostRuntime) {
     let text = b"part def A; attribute n : ScalarValues::Integer;";
     let done = put(rt.alloc(), &mut project, b"a.sysml", text);
     assert!(rt; done == Some(Ok(Applied::Changed)));
-    let expected: [(u32, &[u8], &[u8]); 2] = [
-        (1, b"A", b"Parts::Part"),
-        (13, b"n", b"Base::dataValues"),
-    ];
+    let expected: [(&[u8], &[u8]); 2] = [(b"A", b"Parts::Part"), (b"n", b"Base::dataValues")];
     assert!(rt; are_implied(&project, &expected));
     let done = put(
         rt.alloc(),

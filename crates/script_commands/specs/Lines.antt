@@ -7,7 +7,7 @@ use Rattle.element_store.specs.FileNames.{is_file_name}
 use Rattle.book_model.specs.Answers.{Command as Asked}
 use Rattle.session_course.specs.Commands.{Command as Meant, line_of, HasForm, limit_passed}
 use Rattle.script_commands.specs.declared.command.Command.{Command}
-use Rattle.script_commands.specs.declared.command.Command.TheVariants.{Put, Drop, Links, Check, Find, Implied, End}
+use Rattle.script_commands.specs.declared.command.Command.TheVariants.{Put, Drop, Links, Check, Find, Implied, Print, End}
 use Rattle.script_commands.specs.declared.command.ReadStop.{ReadStop}
 use Rattle.script_commands.specs.declared.command.ReadStop.TheVariants.{LongLine, NoForm, LongText, NoLineFeed, LongInput, CutShort, ReadFault, NoMemory}
 use Rattle.script_commands.specs.declared.line.Heading.{Heading}
@@ -21,6 +21,7 @@ command_of (Links name) = Meant.Do (Asked.Links name)
 command_of Check = Meant.Do Asked.Check
 command_of (Find words) = Meant.Do (Asked.Find words)
 command_of Implied = Meant.Do Asked.Implied
+command_of (Print name) = Meant.Do (Asked.Print name)
 command_of End = Meant.End
 
 -- the first place of a byte, or that the byte is nowhere
@@ -62,6 +63,7 @@ IsHeading line (Ok (heading.Links name)) = (is_file_name name ≡ true) × (line
 IsHeading line (Ok heading.Check) = line ≡ codes "check"
 IsHeading line (Ok (heading.Find words)) = line ≡ codes "find " ++ words
 IsHeading line (Ok heading.Implied) = line ≡ codes "implied"
+IsHeading line (Ok (heading.Print name)) = (is_file_name name ≡ true) × (line ≡ codes "print " ++ name)
 IsHeading line (Ok heading.End) = line ≡ codes "end"
 IsHeading line (Err NoForm) = (c : Meant) → HasForm c → line_of c ≡ line → ⊥
 IsHeading line (Err LongText) = PassesLimit FILE_BYTES line

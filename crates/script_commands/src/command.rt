@@ -19,6 +19,8 @@ pub enum Command {
     Find { words: Text },
     /// List the implied specialisations of all files.
     Implied,
+    /// Print a file in its canonical form.
+    Print { name: FileName },
     /// End the session.
     End,
 }

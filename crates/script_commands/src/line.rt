@@ -21,6 +21,7 @@ pub(crate) enum Heading {
     Check,
     Find { words: Text },
     Implied,
+    Print { name: FileName },
     End,
 }
 
@@ -99,6 +100,16 @@ fn read_links(alloc: Global, name: &[u8]) -> Result<Heading, ReadStop>
     }
 }
 
+/// Reads what follows `print `.
+fn read_print(alloc: Global, name: &[u8]) -> Result<Heading, ReadStop>
+    ensures { IsHeading (codes "print " ++ name.now) result }
+{
+    match file_name(alloc, name) {
+        Ok(name) => Ok(Heading::Print { name }),
+        Err(stop) => Err(stop),
+    }
+}
+
 /// Reads what follows `find `: any words.
 fn read_find(alloc: Global, words: &[u8]) -> Result<Heading, ReadStop>
     ensures { IsHeading (codes "find " ++ words.now) result }
@@ -130,6 +141,9 @@ pub(crate) fn read_heading(alloc: Global, line: &[u8]) -> Result<Heading, ReadSt
     }
     if let Some(name) = line.strip_prefix(b"links ") {
         return read_links(alloc, name);
+    }
+    if let Some(name) = line.strip_prefix(b"print ") {
+        return read_print(alloc, name);
     }
     if let Some(words) = line.strip_prefix(b"find ") {
         return read_find(alloc, words);

@@ -78,6 +78,7 @@ impl ScriptReader {
             Ok(Heading::Check) => Ok(Command::Check),
             Ok(Heading::Find { words }) => Ok(Command::Find { words }),
             Ok(Heading::Implied) => Ok(Command::Implied),
+            Ok(Heading::Print { name }) => Ok(Command::Print { name }),
             Ok(Heading::End) => Ok(Command::End),
             Err(ReadStop::CutShort) => self.read_bare_end(),
             Err(stop) => Err(stop),

@@ -29,6 +29,7 @@ fn is_command(command: &Command, (word, name, text): (&[u8], &[u8], &[u8])) -> b
         Command::Check => word == b"check".as_slice(),
         Command::Find { words } => word == b"find".as_slice() && words.bytes() == text,
         Command::Implied => word == b"implied".as_slice(),
+        Command::Print { name: printed } => word == b"print".as_slice() && printed.bytes() == name,
         Command::End => word == b"end".as_slice(),
     }
 }
@@ -37,7 +38,7 @@ fn is_command(command: &Command, (word, name, text): (&[u8], &[u8], &[u8])) -> b
 #[test]
 fn each_command_is_read_in_pieces_of_any_size(rt: HostRuntime) -> Result<(), Fail> {
     let script =
-        b"put a.sysml 10\npackage P;\nput b.kerml 0\n\ndrop a.sysml\nlinks b.kerml\ncheck\nfind a::b \r\nimplied\nend\nmore";
+        b"put a.sysml 10\npackage P;\nput b.kerml 0\n\ndrop a.sysml\nlinks b.kerml\ncheck\nfind a::b \r\nimplied\nprint b.kerml\nend\nmore";
     let commands = [
         (
             b"put".as_slice(),
@@ -51,7 +52,8 @@ fn each_command_is_read_in_pieces_of_any_size(rt: HostRuntime) -> Result<(), Fai
         (b"check", b"", b"", 74),
         (b"find", b"", b"a::b \r", 86),
         (b"implied", b"", b"", 94),
-        (b"end", b"", b"", 98),
+        (b"print", b"b.kerml", b"", 108),
+        (b"end", b"", b"", 112),
     ];
     for size in SIZES {
         let mut input = source(rt.alloc(), script, size, &[])?;

@@ -11,7 +11,7 @@ use Rattle.book_model.specs.Answers.{Command as Asked}
 use Rattle.book_model.specs.Book.{Book, text_in}
 use Rattle.book_model.specs.Files.{LibraryTexts, Entry, entries_of, Content, ProjectFile, IsContentOf, AreFilesFrom}
 use Rattle.book_model.specs.Laws.{OneReading}
-use Rattle.book_model.specs.Queries.{file_query, links_query, reports, faults_query, implied_query}
+use Rattle.book_model.specs.Queries.{file_query, links_query, reports, faults_query, implied_query, print_query}
 use Rattle.book_model.specs.Readings.{language_of}
 use Rattle.book_model.proofs.AskedLaws.{some_asked}
 use Rattle.book_model.proofs.FileLaws as files
@@ -61,6 +61,7 @@ answer_by h book files Asked.Check = (asked.check_answer files (reports files) (
 answer_by h book files (Asked.Find words) =
     let name = asked_some h words in (asked.find_answer files name.0, (name.0, name.1, refl))
 answer_by h book files Asked.Implied = (asked.implied_answer files (implied_query files), refl)
+answer_by h book files (Asked.Print name) = (asked.print_answer name (print_query files name), refl)
 
 -- a command has an answer
 pub answer_some : SomeReading → (library : LibraryTexts) (book : Book) (c : Command) → (answer : List ℕ) × IsAnswer library book c answer

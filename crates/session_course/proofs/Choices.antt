@@ -122,6 +122,19 @@ links_says name = elim (bool_cases (is_file_name name)) [
   | inr bad ↦ inr (λ c form e. links_none c name bad form (word_in c (codes "links " ++ name) e) e)
 ]
 
+-- nor with `print `
+print_none : (c : Command) (name : List ℕ) → is_file_name name ≡ false → HasForm c → word_of c ≡ 28786 → line_of c ≡ codes "print " ++ name → ⊥
+print_none (Command.Do (Asked.Print other)) name bad form word e =
+    let same : other ≡ name = cc in
+    let good : is_file_name name ≡ true = subst (λ xs. is_file_name xs ≡ true) same form in cc
+print_none c name bad form word e = omega (arith, word)
+
+print_says : (name : List ℕ) → Says (codes "print " ++ name) ⊎ SaysNothing (codes "print " ++ name)
+print_says name = elim (bool_cases (is_file_name name)) [
+  | inl good ↦ inl (record { command = Command.Do (Asked.Print name); form = good; stands = refl })
+  | inr bad ↦ inr (λ c form e. print_none c name bad form (word_in c (codes "print " ++ name) e) e)
+]
+
 -- any words without LF follow `find `
 find_none : (c : Command) (words : List ℕ) → IsMember words 10 → HasForm c → word_of c ≡ 26217 → line_of c ≡ codes "find " ++ words → ⊥
 find_none (Command.Do (Asked.Find other)) words feed form word e =
@@ -198,6 +211,7 @@ pub record IsOther (line : List ℕ) : Type 0 where
   pub no_implied : bytes_eq line (codes "implied") ≡ false
   pub no_drop : bytes_eq (take 5 line) (codes "drop ") ≡ false
   pub no_links : bytes_eq (take 6 line) (codes "links ") ≡ false
+  pub no_print : bytes_eq (take 6 line) (codes "print ") ≡ false
   pub no_find : bytes_eq (take 5 line) (codes "find ") ≡ false
   pub no_put : bytes_eq (take 4 line) (codes "put ") ≡ false
 
@@ -214,6 +228,7 @@ other_none line o (Command.Do (Asked.Links name)) form e = prefix_lacks line (co
 other_none line o (Command.Do Asked.Check) form e = not_bare line (codes "check") o.no_check e
 other_none line o (Command.Do (Asked.Find words)) form e = prefix_lacks line (codes "find ") words o.no_find e
 other_none line o (Command.Do Asked.Implied) form e = not_bare line (codes "implied") o.no_implied e
+other_none line o (Command.Do (Asked.Print name)) form e = prefix_lacks line (codes "print ") name o.no_print e
 other_none line o Command.End form e = not_bare line (codes "end") o.no_end e
 
 -- a line of one word is that of a command, or another one
@@ -243,19 +258,23 @@ says_of line = elim (bare_says line (codes "end") Command.End tt refl) [
         | inl s ↦ s
         | inr no_drop ↦ elim (prefix_says line (codes "links ") links_says) [
           | inl s ↦ s
-          | inr no_links ↦ elim (prefix_says line (codes "find ") find_says) [
+          | inr no_links ↦ elim (prefix_says line (codes "print ") print_says) [
             | inl s ↦ s
-            | inr no_find ↦ elim (prefix_says line (codes "put ") put_says) [
+            | inr no_print ↦ elim (prefix_says line (codes "find ") find_says) [
               | inl s ↦ s
-              | inr no_put ↦ inr (other_none line (record {
-                no_end = no_end;
-                no_check = no_check;
-                no_implied = no_implied;
-                no_drop = no_drop;
-                no_links = no_links;
-                no_find = no_find;
-                no_put = no_put;
-              }))
+              | inr no_find ↦ elim (prefix_says line (codes "put ") put_says) [
+                | inl s ↦ s
+                | inr no_put ↦ inr (other_none line (record {
+                  no_end = no_end;
+                  no_check = no_check;
+                  no_implied = no_implied;
+                  no_drop = no_drop;
+                  no_links = no_links;
+                  no_print = no_print;
+                  no_find = no_find;
+                  no_put = no_put;
+                }))
+              ]
             ]
           ]
         ]

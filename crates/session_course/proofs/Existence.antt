@@ -143,6 +143,8 @@ sized_front book bytes back (Command.Do (Asked.Drop name)) form short size stand
     whole_front book bytes (Command.Do (Asked.Drop name)) back form short size (stands_so (Command.Do (Asked.Drop name)) bytes back back stands refl)
 sized_front book bytes back (Command.Do (Asked.Links name)) form short size stands =
     whole_front book bytes (Command.Do (Asked.Links name)) back form short size (stands_so (Command.Do (Asked.Links name)) bytes back back stands refl)
+sized_front book bytes back (Command.Do (Asked.Print name)) form short size stands =
+    whole_front book bytes (Command.Do (Asked.Print name)) back form short size (stands_so (Command.Do (Asked.Print name)) bytes back back stands refl)
 sized_front book bytes back (Command.Do Asked.Check) form short size stands =
     whole_front book bytes (Command.Do Asked.Check) back form short size (stands_so (Command.Do Asked.Check) bytes back back stands refl)
 sized_front book bytes back (Command.Do (Asked.Find words)) form short size stands =

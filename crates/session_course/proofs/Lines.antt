@@ -92,6 +92,7 @@ line_feed (Command.Do (Asked.Links name)) h = not_joined (codes "links ") name 1
 line_feed (Command.Do Asked.Check) h = fixed_feed (codes "check") refl
 line_feed (Command.Do (Asked.Find words)) h = not_joined (codes "find ") words 10 (fixed_feed (codes "find ") refl) h
 line_feed (Command.Do Asked.Implied) h = fixed_feed (codes "implied") refl
+line_feed (Command.Do (Asked.Print name)) h = not_joined (codes "print ") name 10 (fixed_feed (codes "print ") refl) (name_feed name h)
 line_feed Command.End h = fixed_feed (codes "end") refl
 
 -- the line of a put is short
@@ -118,6 +119,7 @@ word_of (Command.Do (Asked.Links name)) = 27753
 word_of (Command.Do Asked.Check) = 25448
 word_of (Command.Do (Asked.Find words)) = 26217
 word_of (Command.Do Asked.Implied) = 26989
+word_of (Command.Do (Asked.Print name)) = 28786
 word_of Command.End = 25966
 
 pub word_stands : (c : Command) → heading_of (line_of c) ≡ word_of c
@@ -127,6 +129,7 @@ word_stands (Command.Do (Asked.Links name)) = refl
 word_stands (Command.Do Asked.Check) = refl
 word_stands (Command.Do (Asked.Find words)) = refl
 word_stands (Command.Do Asked.Implied) = refl
+word_stands (Command.Do (Asked.Print name)) = refl
 word_stands Command.End = refl
 
 -- commands of one line have one word
@@ -161,6 +164,7 @@ not_end (Asked.Links name) e = omega (arith, e)
 not_end Asked.Check e = omega (arith, e)
 not_end (Asked.Find words) e = omega (arith, e)
 not_end Asked.Implied e = omega (arith, e)
+not_end (Asked.Print name) e = omega (arith, e)
 
 -- commands of one line, whose bodies stand at the front of the same bytes, are the same
 body_same : (c d : Command) (rest left : List ℕ) → HasForm c → HasForm d → line_of c ≡ line_of d → word_of c ≡ word_of d
@@ -178,6 +182,7 @@ body_same (Command.Do (Asked.Links name)) (Command.Do (Asked.Links other)) rest 
 body_same (Command.Do Asked.Check) (Command.Do Asked.Check) rest left h k line word body = (refl, body)
 body_same (Command.Do (Asked.Find words)) (Command.Do (Asked.Find other)) rest left h k line word body = let same : words ≡ other = cc in (cc, body)
 body_same (Command.Do Asked.Implied) (Command.Do Asked.Implied) rest left h k line word body = (refl, body)
+body_same (Command.Do (Asked.Print name)) (Command.Do (Asked.Print other)) rest left h k line word body = let same : name ≡ other = cc in (cc, body)
 body_same Command.End Command.End rest left h k line word body = (refl, body)
 body_same Command.End (Command.Do d) rest left h k line word body = absurd (not_end d (sym word))
 body_same c d rest left h k line word body = absurd (omega (arith, word))
@@ -200,6 +205,7 @@ passed_by_word (Command.Do (Asked.Links name)) (Command.Do (Asked.Links other)) 
 passed_by_word (Command.Do Asked.Check) (Command.Do Asked.Check) h k line word = refl
 passed_by_word (Command.Do (Asked.Find words)) (Command.Do (Asked.Find other)) h k line word = refl
 passed_by_word (Command.Do Asked.Implied) (Command.Do Asked.Implied) h k line word = refl
+passed_by_word (Command.Do (Asked.Print name)) (Command.Do (Asked.Print other)) h k line word = refl
 passed_by_word Command.End Command.End h k line word = refl
 passed_by_word Command.End (Command.Do d) h k line word = absurd (not_end d (sym word))
 passed_by_word c d h k line word = absurd (omega (arith, word))

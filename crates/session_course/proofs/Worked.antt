@@ -114,6 +114,7 @@ of_list =
         no_implied = refl;
         no_drop = refl;
         no_links = refl;
+        no_print = refl;
         no_find = refl;
         no_put = refl;
       });

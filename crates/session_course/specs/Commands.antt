@@ -29,6 +29,7 @@ line_of (Command.Do (Asked.Links name)) = codes "links " ++ name
 line_of (Command.Do Asked.Check) = codes "check"
 line_of (Command.Do (Asked.Find words)) = codes "find " ++ words
 line_of (Command.Do Asked.Implied) = codes "implied"
+line_of (Command.Do (Asked.Print name)) = codes "print " ++ name
 line_of Command.End = codes "end"
 
 -- what follows the LF of the line: the bytes of a put and their LF
@@ -39,6 +40,7 @@ body_of (Command.Do (Asked.Links name)) = []
 body_of (Command.Do Asked.Check) = []
 body_of (Command.Do (Asked.Find words)) = []
 body_of (Command.Do Asked.Implied) = []
+body_of (Command.Do (Asked.Print name)) = []
 body_of Command.End = []
 
 -- the command has a form: its name is that of a file of either language, its number has at most 10 digits, its words
@@ -50,6 +52,7 @@ HasForm (Command.Do (Asked.Links name)) = is_file_name name ≡ true
 HasForm (Command.Do Asked.Check) = Unit {0}
 HasForm (Command.Do (Asked.Find words)) = IsMember words 10 → ⊥
 HasForm (Command.Do Asked.Implied) = Unit {0}
+HasForm (Command.Do (Asked.Print name)) = is_file_name name ≡ true
 HasForm Command.End = Unit {0}
 
 -- the limit that the number of a command passes
@@ -60,6 +63,7 @@ limit_passed (Command.Do (Asked.Links name)) = None
 limit_passed (Command.Do Asked.Check) = None
 limit_passed (Command.Do (Asked.Find words)) = None
 limit_passed (Command.Do Asked.Implied) = None
+limit_passed (Command.Do (Asked.Print name)) = None
 limit_passed Command.End = None
 
 -- the number with which the edit of a command is refused over the book

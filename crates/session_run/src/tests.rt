@@ -77,6 +77,13 @@ impl Answering for Bare {
     fn implied<K: Sink>(&mut self, output: &mut K) -> Result<(), AnswerFault> {
         give_piece(output, b"implied 0\n")
     }
+
+    fn print<K: Sink>(&mut self, name: &FileName, output: &mut K) -> Result<(), AnswerFault> {
+        match no_file_line(self.alloc, b"print", name.bytes()) {
+            Ok(text) => give_piece(output, &text),
+            Err(_) => Err(AnswerFault::NoMemory),
+        }
+    }
 }
 
 impl Opening for Bare {

@@ -70,6 +70,12 @@ pub trait Answering {
         requires whole { (holding self.old).broken ≡ false }
         ensures answered { IsAnswered (holding self.old) (holding self.new) Asked.Implied
             (across K.given K.faults output.old output.new) result };
+
+    /// Prints a file in its canonical form.
+    fn print<K: Sink>(&mut self, name: &FileName, output: &mut K) -> Result<(), AnswerFault>
+        requires whole { (holding self.old).broken ≡ false }
+        ensures answered { IsAnswered (holding self.old) (holding self.new) (Asked.Print name.now)
+            (across K.given K.faults output.old output.new) result };
 }
 
 /// Gives a piece of an answer, whole or after a failure a front of it.

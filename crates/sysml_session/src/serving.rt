@@ -86,6 +86,7 @@ fn answer<P: Answering, K: Sink, L: Ledger>(
         Command::Check => flow_after(project.check(output)),
         Command::Find { words } => flow_after(project.find(&words, output)),
         Command::Implied => flow_after(project.implied(output)),
+        Command::Print { name } => flow_after(project.print(&name, output)),
         Command::End => give_end(output),
     }
 }

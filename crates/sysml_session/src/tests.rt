@@ -76,6 +76,13 @@ impl Answering for Bare {
     fn implied<K: Sink>(&mut self, output: &mut K) -> Result<(), AnswerFault> {
         give_piece(output, b"implied 0\n")
     }
+
+    fn print<K: Sink>(&mut self, name: &FileName, output: &mut K) -> Result<(), AnswerFault> {
+        match no_file_line(self.alloc, b"print", name.bytes()) {
+            Ok(text) => give_piece(output, &text),
+            Err(_) => Err(AnswerFault::NoMemory),
+        }
+    }
 }
 
 /// How a session over the bare project ends, with objects that move at most `size` bytes a call, of which
@@ -113,6 +120,11 @@ fn sessions_end_as_the_table_says(rt: HostRuntime) -> Result<(), Fail> {
         (
             b"drop a.kerml\nend\n",
             b"drop a.kerml no file\nend\n",
+            Ok(()),
+        ),
+        (
+            b"print a.sysml\nend\n",
+            b"print a.sysml no file\nend\n",
             Ok(()),
         ),
         (

@@ -30,5 +30,9 @@ pub returns-in-Implied : goal.returns-in-Implied
 returns-in-Implied g c = answered_as _ _ Asked.Implied _ c.implied.result _ _
     (ap command_of c.in-Implied.is) c.flow_after-in-Implied.ensures c.implied.ensures.answered
 
+pub returns-in-Print : goal.returns-in-Print
+returns-in-Print g c = answered_as _ _ (Asked.Print c.in-Print.name) _ c.print.result _ _
+    (ap command_of c.in-Print.is) c.flow_after-in-Print.ensures c.print.ensures.answered
+
 pub returns-in-End : goal.returns-in-End
 returns-in-End g c = end_answered _ _ _ c.give_end.result (ap command_of c.in-End.is) c.requires.whole c.give_end.ensures
