@@ -1,0 +1,5 @@
+pub mod ListLaws
+pub mod SettledLaws
+pub mod HomeLaws
+pub mod StandingLaws
+pub mod SoleLaws
