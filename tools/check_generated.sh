@@ -11,6 +11,7 @@ python3 make_examples.py --check || status=1
 python3 make_build_examples.py --check || status=1
 python3 make_lookup_rows.py --check || status=1
 python3 make_print_rows.py --check || status=1
+python3 make_edit_rows.py --check || status=1
 python3 make_library.py --check || status=1
 if [ -d ../../shared/oracle ]; then
   python3 make_link_rows.py --check || status=1
